@@ -1,0 +1,4 @@
+pub mod Refusals
+pub mod Durations
+pub mod Ranges
+pub mod View
