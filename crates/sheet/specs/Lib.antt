@@ -1,0 +1,5 @@
+pub mod Fields
+pub mod Records
+pub mod Lines
+pub mod Kinds
+pub mod Reading

@@ -1,0 +1,15 @@
+// Plan sheets: lines of fixed width, read into targets and actions as they are written.
+mod field;
+mod line;
+mod read;
+mod record;
+mod room;
+mod target;
+
+pub use field::number;
+pub use record::ActLine;
+pub use record::Letter;
+pub use record::Place;
+pub use record::Side;
+pub use room::Room;
+pub use target::Target;
