@@ -1,2 +1,5 @@
 pub mod Blanks
 pub mod Cuts
+pub mod Placed
+pub mod Whole
+pub mod Reasoned

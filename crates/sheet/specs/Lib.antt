@@ -3,3 +3,5 @@ pub mod Records
 pub mod Lines
 pub mod Kinds
 pub mod Reading
+pub mod View
+pub mod Reasons

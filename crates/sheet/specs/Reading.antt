@@ -95,3 +95,10 @@ tests-at m s sheet i =
 -- why a sheet is refused: its shape, and then its earliest line that breaks a rule
 unfoldable pub reading-refusal : Meaning → Site-settings → List ℕ → Option Told
 reading-refusal m s sheet = first-of ((bad-sheet sheet, told SheetShape 0 0) ∷ from-on (tests-at m s sheet) 0 (lines-in sheet))
+
+-- a target that is shown fits its types
+abbrev pub Small : Record → Type 0
+Small (Goal c h) = (c < 256) × (h < 256)
+Small (Act a) = Unit {0}
+Small Note = Unit {0}
+Small (End n) = Unit {0}

@@ -4,6 +4,7 @@ mod line;
 mod read;
 mod record;
 mod room;
+mod sheet;
 mod target;
 
 pub use field::number;
@@ -11,5 +12,7 @@ pub use record::ActLine;
 pub use record::Letter;
 pub use record::Place;
 pub use record::Side;
+pub use read::read_sheet;
 pub use room::Room;
+pub use sheet::Sheet;
 pub use target::Target;

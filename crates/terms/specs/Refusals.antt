@@ -104,8 +104,13 @@ abbrev pub first-of : List (Bool × Told) → Option Told
 first-of [] = None
 first-of (t ∷ ts) = cond (t .0) (Some (t .1)) (first-of ts)
 
+-- the first refusal of two
+abbrev pub or-else : Option Told → Option Told → Option Told
+or-else None o = o
+or-else (Some t) o = Some t
+
 -- what f lists of k places from place i on, one place after another
-abbrev pub from-on : {ℓ} {X : Type ℓ} → (ℕ → List X) → ℕ → ℕ → List X
+abbrev pub from-on {ℓ} : {X : Type ℓ} → (ℕ → List X) → ℕ → ℕ → List X
 from-on f i zero = []
 from-on f i (suc k) = f i ++ from-on f (suc i) k
 
