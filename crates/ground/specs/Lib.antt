@@ -1,1 +1,4 @@
 pub mod Meaning
+pub mod Members
+pub mod Squared
+pub mod View

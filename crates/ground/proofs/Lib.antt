@@ -1,0 +1,5 @@
+pub mod Rises
+pub mod Among
+pub mod Beside
+pub mod Lawful
+pub mod Picks
