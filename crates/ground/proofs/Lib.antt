@@ -3,3 +3,8 @@ pub mod Among
 pub mod Beside
 pub mod Lawful
 pub mod Picks
+pub mod Ordered
+pub mod Climbing
+pub mod Scans
+pub mod Filling
+pub mod Crowds

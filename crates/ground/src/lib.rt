@@ -6,10 +6,14 @@ ghost use Rattle.std.specs.shelf.Maps.{nth};
 ghost use Rattle.ground.specs.Meaning.{Meaning, Lawful, neighbours};
 
 mod linking;
+mod listed;
+mod listed_ground;
+mod row;
 mod square;
 mod square_ground;
 
 pub use linking::is_linked;
+pub use listed::Listed;
 pub use square::Square;
 pub use square_ground::SquareGround;
 
