@@ -1,9 +1,9 @@
--- A row that is full when one more link comes says that a column has a seventh link. Assumes nothing.
+-- A row is full when one more link comes just where a column has a seventh link. Assumes nothing.
 use mathlib.Core.Path.{_≡_, refl, sym, ap, subst, _∙_}
 use mathlib.Core.Bool.{Bool, true, false, cond, _||_}
 use mathlib.Core.List.{List, [], _∷_, _++_}
 use mathlib.Core.Logic.{⊎-elim}
-use Prim.Native.Nat.{ℕ, zero, suc, _+_, _≤_, _<_}
+use Prim.Native.Nat.{ℕ, _+_, _≤_, _<_}
 use native.Mathlib.Omega.{arith}
 use lib.Dec.{eqb, ltb}
 use lib.ListN.{getD, length, set, take}
@@ -12,10 +12,11 @@ use Rattle.std.specs.declared.option.Option.{Option}
 use Rattle.std.specs.declared.option.Option.the-variants.{Some, None}
 use Rattle.std.proofs.shelf.Lists.{getD-set-other, length-append, length-take-le, take-all}
 use Rattle.std.proofs.shelf.Sums.{countBy-more-yes, sumBy-cons, sumBy-take-le}
-use Rattle.std.proofs.shelf.Tests.{cases-bool, cases-lt, eq-eqb, eqb-true, le-ltb, lt-ltb, ltb-false, ltb-true, ne-eqb, or-from, or-left, or-right}
-use Rattle.ground.specs.Listing.{Crowded, Inside, Link, ascends, touches}
+use Rattle.std.proofs.shelf.Tests.{cases-lt, eq-eqb, ltb-false, ltb-true, ne-eqb, or-from, or-left, or-right}
+use Rattle.ground.specs.Listing.{Crowded, Link, ascends, touches}
 use Rattle.ground.specs.Table.{Filled, entries, no-row, other, with-link}
 use Rattle.ground.specs.declared.row.Row.{Row}
+use Rattle.ground.proofs.Ordered.{first-link}
 
 -- what an attempt to add a link told of the row
 pub was-full : (r : Row) (d : ℕ) (o : Option Row) → o ≡ cond (ltb (r .count) 6) (Some (with-link r d)) None → o ≡ None → 6 ≤ r .count
@@ -67,3 +68,30 @@ module _ (border : List ℕ) (ks : List Link) (rows : List Row) (i : ℕ) (was :
 
 pub filled-links : (border : List ℕ) (ks : List Link) (rows : List Row) (i : ℕ) → length ks ≤ i → Filled border (λ c. joined (other c) (take i ks)) rows → Filled border (λ c. joined (other c) ks) rows
 filled-links border ks rows i h was = subst (λ js. Filled border (λ c. joined (other c) js) rows) (take-all i ks h) was
+
+joins-none : (n c : ℕ) (k : Link) → k .0 < k .1 → k .1 < n → n ≤ c → touches c k ≡ false
+joins-none n c k less small past = or-from (eqb (k .0) c) (eqb (k .1) c) (ne-eqb (k .0) c (λ e. omega arith)) (ne-eqb (k .1) c (λ e. omega arith))
+
+-- no link touches what is past the last column
+count-past : (n c : ℕ) (before : Link) (ks : List Link) → ascends n before ks ≡ true → n ≤ c → countBy (touches c) ks ≡ 0
+count-past n c before [] h past = refl
+count-past n c before (k ∷ ks) h past =
+    let first = first-link n before k ks h in
+    let cons : countBy (touches c) (k ∷ ks) ≡ cond (touches c k) 1 0 + countBy (touches c) ks = sumBy-cons (λ j. cond (touches c j) 1 0) k ks in
+    omega (arith, cons, ap (λ b. cond {A = ℕ} b 1 0) (joins-none n c k (first .lower) (first .inside) past), count-past n c k ks (first .later) past)
+
+pub crowded-within : (n : ℕ) (ks : List Link) → ascends n (0, 0) ks ≡ true → Crowded 256 ks → Crowded n ks
+crowded-within n ks up crowd =
+    ⊎-elim
+    (λ (lt : crowd .0 < n). (crowd .0, lt, crowd .2))
+    (λ (past : n ≤ crowd .0). absurd (omega (arith, crowd .2, count-past n (crowd .0) (0, 0) ks up past)))
+    (cases-lt (crowd .0) n)
+
+-- no column of filled rows has a seventh link
+pub not-crowded : (n : ℕ) (border : List ℕ) (ks : List Link) (rows : List Row) → n ≤ 256 → Filled border (λ c. joined (other c) ks) rows → Crowded n ks → ⊥
+not-crowded n border ks rows high full crowd =
+    let c = crowd .0 in
+    let row = getD rows c no-row in
+    let small : c < 256 = omega (arith, crowd .1) in
+    let long : length (entries row) ≡ row .count = length-take-le (row .count) (row .to) (omega (arith, full .short c, full .wide c small)) in
+    omega (arith, crowd .2, length-row c ks, ap length (full .keeps c small), full .short c)

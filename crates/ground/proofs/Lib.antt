@@ -8,3 +8,6 @@ pub mod Climbing
 pub mod Scans
 pub mod Filling
 pub mod Crowds
+pub mod Makes
+pub mod Refuses
+pub mod Rows

@@ -14,6 +14,7 @@ mod square_ground;
 
 pub use linking::is_linked;
 pub use listed::Listed;
+pub use listed_ground::ListedGround;
 pub use square::Square;
 pub use square_ground::SquareGround;
 

@@ -5,9 +5,16 @@ ghost use Prim.Native.Nat.{_≤_};
 ghost use lib.ListN.{length};
 ghost use Rattle.std.specs.Options.{Cases};
 ghost use Rattle.std.specs.shelf.Lists.{joined};
-ghost use Rattle.ground.specs.Listing.{Inside, Crowded, above, ascends, border-fits};
+ghost use Rattle.terms.specs.Refusals.{Answers, Settles, refusalIn};
+ghost use Rattle.ground.specs.Listing.{Inside, Crowded, above, ascends, border-fits, listed, listing-refusal, listing-reasons};
+ghost use Rattle.ground.specs.Meaning.{Same};
 ghost use Rattle.ground.specs.Table.{Filled, other};
+ghost use Rattle.ground.specs.View.{listedOf};
+use crate::Ground;
+use crate::Listed;
 use crate::row::Row;
+use terms::Refusal;
+use terms::Rule;
 
 // Whether there are 1 to 256 columns, and a byte of 0 or 1 for each.
 fn is_border_list(columns: u16, border: &[u8]) -> bool
@@ -76,4 +83,58 @@ fn filled(border: &[u8], links: &[(u16, u16)]) -> Option<[Row; 256]>
         rows[higher as usize] = row;
     }
     Some(rows)
+}
+
+impl Listed {
+    // The ground of a border list, a byte for each column, and of links, each by its lower and its higher column.
+    pub fn new(columns: u16, border: &[u8], links: &[(u16, u16)]) -> Result<Listed, Refusal>
+        ensures value { λ r. ⌜ Answers (listing-refusal columns (now (border .entry)) (now (links .entry))) (λ l. Same (listedOf l) (listed columns (now (border .entry)) (now (links .entry)))) r ⌝ }
+        ensures words { λ r. ⌜ Settles (listing-reasons columns (now (border .entry)) (now (links .entry))) (refusalIn r) ⌝ }
+    {
+        if !is_border_list(columns, border) {
+            return Err(Refusal::plain(Rule::BorderList));
+        }
+        if !is_link_list(columns, links) {
+            return Err(Refusal::plain(Rule::LinkOrder));
+        }
+        let Some(rows) = filled(border, links) else {
+            return Err(Refusal::plain(Rule::SeventhLink));
+        };
+        Ok(Listed { columns, rows })
+    }
+}
+
+pub impl Ground for Listed as ListedGround {
+    const MOST_LINKS: usize = 6;
+
+    ghost meaning = { listedOf };
+
+    ghost most = { 6 };
+
+    fn limit() -> usize {
+        Self::MOST_LINKS
+    }
+
+    fn columns(&self) -> u16 {
+        self.columns
+    }
+
+    fn is_border(&self, column: u16) -> bool {
+        column < self.columns && self.rows[column as usize].border
+    }
+
+    fn links(&self, column: u16) -> usize {
+        if column >= self.columns {
+            return 0;
+        }
+        self.rows[column as usize].count as usize
+    }
+
+    fn link(&self, column: u16, k: usize) -> Option<u16> {
+        if column >= self.columns {
+            return None;
+        }
+        let row = self.rows[column as usize];
+        if k < row.count as usize { Some(row.to[k]) } else { None }
+    }
 }
