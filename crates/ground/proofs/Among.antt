@@ -35,8 +35,10 @@ place p (suc n) a d low high h =
     (cases-bool (p a)))
     (cases-eq a d)
 
-pub told-linked : (m : Meaning) (c d k : ℕ) → nth (neighbours m c) k ≡ Some d → m .linked c d ≡ true
-told-linked m c d k h = all-nth (λ x. m .linked c x ≡ true) (neighbours m c) k d (kept-by-passes (m .linked c) (counting 0 (m .columns))) h
+pub told-linked : (m : Meaning) (c d k : ℕ) (o : Option ℕ) (e : ℕ) → o ≡ nth (neighbours m c) k → o ≡ Some e → e ≡ d → m .linked c d ≡ true
+told-linked m c d k o e is some same =
+    let h : nth (neighbours m c) k ≡ Some d = sym is ∙ some ∙ ap (λ x. Some x) same in
+    all-nth (λ x. m .linked c x ≡ true) (neighbours m c) k d (kept-by-passes (m .linked c) (counting 0 (m .columns))) h
 
 pub untold-apart : (m : Meaning) (c d most : ℕ) → Lawful m → length (neighbours m c) ≤ most → ((k : ℕ) → k < most → nth (neighbours m c) k ≡ Some d → ⊥) → m .linked c d ≡ false
 untold-apart m c d most law few none =
