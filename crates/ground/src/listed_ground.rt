@@ -135,6 +135,10 @@ pub impl Ground for Listed as ListedGround {
             return None;
         }
         let row = self.rows[column as usize];
-        if k < row.count as usize { Some(row.to[k]) } else { None }
+        if k < row.count as usize {
+            Some(row.to[k])
+        } else {
+            None
+        }
     }
 }

@@ -15,7 +15,11 @@ pub struct Row {
 
 impl Row {
     // No border, and no links.
-    pub const EMPTY: Row = Row { border: false, count: 0, to: [0; 6] };
+    pub const EMPTY: Row = Row {
+        border: false,
+        count: 0,
+        to: [0; 6],
+    };
 
     // The row with one more link, unless it has six.
     pub fn with_link(mut self, column: u16) -> Option<Row>

@@ -1,7 +1,8 @@
 // Making a square ground, and what it tells.
 ghost use mathlib.Core.Path.{_≡_};
 ghost use Rattle.terms.specs.Refusals.{Answers, Settles, refusalIn};
-ghost use Rattle.ground.specs.Squared.{squared, square-refusal, square-reasons, sides-of};
+ghost use Rattle.ground.specs.Squared.{squared, square-refusal, square-reasons};
+ghost use Rattle.ground.specs.Sides.{sides-of};
 ghost use Rattle.ground.specs.View.{squareOf};
 use crate::Ground;
 use crate::Square;
@@ -17,7 +18,10 @@ impl Square {
         if x < 1 || x > 16 || y < 1 || y > 16 {
             return Err(Refusal::plain(Rule::SquareSize));
         }
-        Ok(Square { x: x as u8, y: y as u8 })
+        Ok(Square {
+            x: x as u8,
+            y: y as u8,
+        })
     }
 
     // The columns on the four sides of a column, where there are such, in rising order.
@@ -32,8 +36,16 @@ impl Square {
         let across = column % y;
         let before = if column >= y { Some(column - y) } else { None };
         let left = if across > 0 { Some(column - 1) } else { None };
-        let right = if across + 1 < y { Some(column + 1) } else { None };
-        let behind = if column + y < columns { Some(column + y) } else { None };
+        let right = if across + 1 < y {
+            Some(column + 1)
+        } else {
+            None
+        };
+        let behind = if column + y < columns {
+            Some(column + y)
+        } else {
+            None
+        };
         [before, left, right, behind]
     }
 }

@@ -1,5 +1,5 @@
+-- The row of a column is its neighbours, so place k of the row is neighbour k.
 use mathlib.Core.Path.{sym, ap, _∙_}
-use native.Mathlib.Omega.{arith}
 use Rattle.std.specs.shelf.Maps.{nth}
 use Rattle.ground.proofs.Rows.{row-ends, row-has}
 use Rattle.ground.proofs.listed_ground.ListedGround.link.Needs as need

@@ -1,4 +1,5 @@
-use mathlib.Core.Path.{_≡_, refl, sym, ap, _∙_}
+-- The sides that are there are the neighbours, so the side picked is neighbour k.
+use mathlib.Core.Path.{sym, ap, _∙_}
 use Prim.Native.Nat.{_<_, _≤_}
 use lib.ListN.{length}
 use native.Mathlib.Omega.{arith}
@@ -29,8 +30,8 @@ loop-side-again c =
     let i = c .loop-side .side-index in
     let lt : i < length os = omega (arith, c .loop-side-test .taken, ap length (c .sides-side-items .ensures), four-sides (s .x) (s .y) (c .args .column)) in
     elim (c .match-side .came) [
-      in-Some·else-left-eq0 w ↦ ap (nth _) (w .left-is) ∙ sym (pick-later os i lt (w .in-Some .linked) (c .loop-side .left) (w .in-Some .is) (omega (arith, w .if-left-eq0 .left))) ∙ c .loop-side .inv
-    | in-rest w ↦ ap (nth _) (w .left-is) ∙ sym (pick-past os i lt (c .loop-side .left) (w .in-rest .is)) ∙ c .loop-side .inv
+      | in-Some·else-left-eq0 w ↦ ap (nth _) (w .left-is) ∙ sym (pick-later os i lt (w .in-Some .linked) (c .loop-side .left) (w .in-Some .is) (omega (arith, w .if-left-eq0 .left))) ∙ c .loop-side .inv
+      | in-rest w ↦ ap (nth _) (w .left-is) ∙ sym (pick-past os i lt (c .loop-side .left) (w .in-rest .is)) ∙ c .loop-side .inv
     ]
 
 pub returns : need.returns

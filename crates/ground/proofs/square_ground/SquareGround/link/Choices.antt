@@ -1,3 +1,4 @@
+-- Among the sides that are left, the one to tell is number `left`.
 use mathlib.Core.Path.{_≡_}
 use lib.ListN.{drop}
 use Rattle.std.specs.shelf.Maps.{nth}

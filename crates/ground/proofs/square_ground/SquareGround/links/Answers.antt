@@ -1,4 +1,5 @@
-use mathlib.Core.Path.{_≡_, refl, sym, ap, _∙_}
+-- The sides that are there are the neighbours, so their count is.
+use mathlib.Core.Path.{sym, ap, _∙_}
 use Prim.Native.Nat.{_<_, _≤_}
 use lib.ListN.{length}
 use native.Mathlib.Omega.{arith}
@@ -26,8 +27,8 @@ loop-side-again c =
     let i = c .loop-side .side-index in
     let lt : i < length os = omega (arith, c .loop-side-test .taken, ap length (c .sides-side-items .ensures), four-sides (s .x) (s .y) (c .args .column)) in
     elim (c .if-is-some .came) [
-      then-is-some w ↦ omega (arith, w .count-is, c .loop-side .inv, count-yes os i lt (sym (c .is-some .ensures) ∙ w .if-is-some .taken))
-    | else-is-some w ↦ omega (arith, w .count-is, c .loop-side .inv, count-no os i lt (sym (c .is-some .ensures) ∙ w .if-is-some .left))
+      | then-is-some w ↦ omega (arith, w .count-is, c .loop-side .inv, count-yes os i lt (sym (c .is-some .ensures) ∙ w .if-is-some .taken))
+      | else-is-some w ↦ omega (arith, w .count-is, c .loop-side .inv, count-no os i lt (sym (c .is-some .ensures) ∙ w .if-is-some .left))
     ]
 
 pub returns : need.returns

@@ -1,3 +1,4 @@
+-- The sides counted and those left are the neighbours.
 use mathlib.Core.Path.{_≡_}
 use Prim.Native.Nat.{_+_}
 use lib.ListN.{length, drop}
