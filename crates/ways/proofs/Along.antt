@@ -56,20 +56,6 @@ in-counting p (suc n) = ap (first-in p) (counting-push n) ∙ in-push p (countin
 pub along : (m : Meaning) (c : ℕ) (q : ℕ → Bool) → first-in q (neighbours m c) ≡ first-below (λ d. m .linked c d && q d) (m .columns)
 along m c q = in-kept (m .linked c) q (counting 0 (m .columns)) ∙ in-counting (λ d. m .linked c d && q d) (m .columns)
 
-abbrev linked-to : Meaning → ℕ → ℕ → ℕ → Bool
-linked-to m c d e = m .linked c e && eqb e d
-
--- the column that is looked for is found exactly where it is linked
-pub linked-found : (m : Meaning) → Lawful m → (c d : ℕ) → isSome (first-in (λ e. eqb e d) (neighbours m c)) ≡ m .linked c d
-linked-found m law c d = ap isSome (along m c (λ e. eqb e d)) ∙ go (first-below (linked-to m c d) (m .columns)) refl (cases-bool (m .linked c d))
-  where
-    go : (o : Option ℕ) → first-below (linked-to m c d) (m .columns) ≡ o → (m .linked c d ≡ true) ⊎ (m .linked c d ≡ false) → isSome o ≡ m .linked c d
-    go (Some k) e h =
-        let p = and-parts (m .linked c k) (eqb k d) (first-some (linked-to m c d) (m .columns) k e .0) in
-        sym (ap (m .linked c) (sym (eqb-true k d (p .1))) ∙ p .0)
-    go None e (inl l) = absurd (none≢some (sym e ∙ first-there (linked-to m c d) (m .columns) d (law .within c d l) (and-from (m .linked c d) (eqb d d) l (eq-eqb d d refl)) .1))
-    go None e (inr l) = sym l
-
 drop-none : (xs : List ℕ) (k : ℕ) → None ≡ nth xs k → drop k xs ≡ []
 drop-none xs k h =
     ⊎-elim (λ lt. absurd (none≢some (h ∙ nth-getD xs k 0 lt))) (λ ge. drop-all k xs ge) (cases-lt k (length xs))

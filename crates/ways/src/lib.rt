@@ -5,5 +5,5 @@ mod search;
 mod tall;
 
 pub use found::Ways;
-pub use links::is_linked;
+pub use links::is_near;
 pub use tall::Tall;

@@ -1,29 +1,17 @@
 // The links of a column, one after the other.
 ghost use mathlib.Core.Path.{_≡_};
+ghost use Rattle.std.specs.Orderings.{Decides};
+ghost use Rattle.ways.specs.Way.{Near};
 ghost use Rattle.ways.specs.Table.{label, lowest-beside, fits, is-label, near};
 ghost use Rattle.ways.specs.View.{heights-by};
 use crate::tall::Tall;
 use crate::tall::height_at;
 use ground::Ground;
 
-// Whether two columns are linked.
-pub fn is_linked<G: Ground>(ground: &G, from: u16, to: u16) -> bool
-    ensures { λ r. ⌜ r ≡ G·Ground .meaning (now (ground .entry)) .linked from to ⌝ }
-{
-    for k in 0..G::limit() {
-        let Some(beside) = ground.link(from, k) else {
-            return false;
-        };
-        if beside == to {
-            return true;
-        }
-    }
-    false
-}
-
 // Whether two heights differ by at most one.
-fn is_near(a: u8, b: u8) -> bool
-    ensures { λ r. ⌜ r ≡ near a b ⌝ }
+pub fn is_near(a: u8, b: u8) -> bool
+    ensures value { λ r. ⌜ r ≡ near a b ⌝ }
+    ensures words { λ r. ⌜ Decides r (Near a b) ⌝ }
 {
     b as u16 <= a as u16 + 1 && a as u16 <= b as u16 + 1
 }
