@@ -1,0 +1,5 @@
+pub mod Column
+pub mod Scene
+pub mod Gate
+pub mod Words
+pub mod View
