@@ -1,1 +1,6 @@
 pub mod Meaning
+pub mod Members
+pub mod Squared
+pub mod Listing
+pub mod Table
+pub mod View

@@ -5,6 +5,21 @@ ghost use lib.ListN.{length};
 ghost use Rattle.std.specs.shelf.Maps.{nth};
 ghost use Rattle.ground.specs.Meaning.{Meaning, Lawful, neighbours};
 
+mod linking;
+mod listed;
+mod listed_ground;
+mod row;
+mod square;
+mod square_ground;
+#[cfg(test)]
+mod tests;
+
+pub use linking::is_linked;
+pub use listed::Listed;
+pub use listed_ground::ListedGround;
+pub use square::Square;
+pub use square_ground::SquareGround;
+
 // A kind of ground. What it means is given by ghost members, and it tells just that.
 pub trait Ground {
     // The most links that a column of this kind may have.

@@ -1,0 +1,13 @@
+pub mod Rises
+pub mod Among
+pub mod Beside
+pub mod Lawful
+pub mod Picks
+pub mod Ordered
+pub mod Climbing
+pub mod Scans
+pub mod Filling
+pub mod Crowds
+pub mod Makes
+pub mod Refuses
+pub mod Rows
