@@ -1,0 +1,8 @@
+// Plans: the actions that lines of a sheet stand for, and the rules that a line has to keep by itself.
+mod action;
+mod span;
+mod spans;
+
+pub use action::Action;
+pub use action::Spot;
+pub use span::Span;
