@@ -3,3 +3,4 @@ pub mod Cuts
 pub mod Placed
 pub mod Whole
 pub mod Reasoned
+pub mod Numbers

@@ -1,5 +1,5 @@
 -- Fields: decimal numbers, letters and marks, justified to the right and filled with spaces. Assumes nothing.
-use Prim.Native.Nat.{ℕ, _+_, _*_, _-_, _<_}
+use Prim.Native.Nat.{ℕ, _+_, _*_, _-_, _^_, _≤_, _<_}
 use mathlib.Core.Path.{_≡_}
 use mathlib.Core.List.{List, [], _∷_, _++_}
 use mathlib.Core.Bool.{Bool, true, false, cond, _&&_, _||_}
@@ -37,9 +37,12 @@ unspaced (b ∷ bs) = cond (eqb b 32) (unspaced bs) (b ∷ bs)
 abbrev pub numberIn : List ℕ → Option ℕ
 numberIn bs = cond (leb (length bs) 9) (plain (unspaced bs)) None
 
--- a field shows n: spaces, and then n in decimal
-abbrev pub Shows : List ℕ → ℕ → Type 0
-Shows bs n = (length bs < 10) × ((k : ℕ) × (bs ≡ replicate k 32 ++ decimal n))
+-- a field of at most nine bytes shows n: spaces, and then n in decimal
+pub record Shows (bs : List ℕ) (n : ℕ) : Type 0 where
+  pub narrow : length bs ≤ 9
+  pub small : n < 10 ^ 9
+  pub spaces : ℕ
+  pub text : bs ≡ replicate spaces 32 ++ decimal n
 
 -- the one byte that is no space, or none
 abbrev pub lone : List ℕ → Option ℕ

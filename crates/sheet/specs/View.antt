@@ -1,7 +1,8 @@
 -- What clauses read of a sheet. Assumes nothing.
-use Prim.Native.Nat.{ℕ}
+use Prim.Native.Nat.{ℕ, _*_}
 use mathlib.Core.List.{List}
 use Rattle.std.specs.Of.Vec.{vec-items}
+use Rattle.std.specs.shelf.Lists.{sumBy}
 use Rattle.sheet.specs.declared.record.ActLine.{ActLine}
 use Rattle.sheet.specs.declared.sheet.Sheet.{Sheet}
 use Rattle.sheet.specs.declared.target.Target.{Target}
@@ -19,3 +20,7 @@ sheetOf s = record { targets = vec-items (s .targets); acts = vec-items (s .acts
 -- what all lines of a sheet show
 abbrev pub records-in : List ℕ → Records
 records-in sheet = record { targets = targets sheet (lines-in sheet); acts = acts sheet (lines-in sheet); lines = lines-in sheet }
+
+-- the work figure of targets: each height times itself, summed
+abbrev pub work : List Target → ℕ
+work ts = sumBy (λ t. t .height * t .height) ts

@@ -4,7 +4,8 @@ ghost use mathlib.Core.Bool.{true, false};
 ghost use Prim.Native.Nat.{ℕ, _-_, _<_, _≤_};
 ghost use lib.ListN.{length};
 ghost use Rattle.std.specs.Options.{Cases as BySome};
-ghost use Rattle.sheet.specs.Fields.{digit, digits, unspaced, numberIn, letter, letterIn, placeIn, flag, blank, lone, is, numbered};
+ghost use Rattle.std.specs.declared.option.Option.the-variants.{Some};
+ghost use Rattle.sheet.specs.Fields.{Shows, digit, digits, unspaced, numberIn, letter, letterIn, placeIn, flag, blank, lone, is, numbered};
 use crate::record::Letter;
 use crate::record::Place;
 
@@ -46,8 +47,8 @@ fn trimmed(field: &[u8]) -> &[u8]
 }
 
 // The number in a field of at most nine bytes: at least one digit, and no leading zero.
-pub fn number(field: &[u8]) -> Option<u32>
-    ensures value { λ r. ⌜ r ≡ numberIn (now (field .entry)) ⌝ }
+fn justified(field: &[u8]) -> Option<u32>
+    ensures { λ r. ⌜ r ≡ numberIn (now (field .entry)) ⌝ }
 {
     if field.len() > 9 {
         return None;
@@ -57,6 +58,14 @@ pub fn number(field: &[u8]) -> Option<u32>
         [] | [b'0', _, ..] => None,
         _ => digits_of(rest),
     }
+}
+
+// The number that a field shows: spaces, and then its decimal digits, at most nine bytes in all.
+pub fn number(field: &[u8]) -> Option<u32>
+    ensures value { λ r. ⌜ r ≡ numberIn (now (field .entry)) ⌝ }
+    ensures words { λ r. ⌜ ((n : ℕ) → (r ≡ Some n → Shows (now (field .entry)) n) × (Shows (now (field .entry)) n → r ≡ Some n)) ⌝ }
+{
+    justified(field)
 }
 
 // The byte of a field that has just one.

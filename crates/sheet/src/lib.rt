@@ -1,5 +1,6 @@
 // Plan sheets: lines of fixed width, read into targets and actions as they are written.
 mod field;
+mod figure;
 mod line;
 mod read;
 mod record;
@@ -8,6 +9,7 @@ mod sheet;
 mod target;
 
 pub use field::number;
+pub use figure::tower_work;
 pub use record::ActLine;
 pub use record::Letter;
 pub use record::Place;

@@ -14,7 +14,7 @@ use Rattle.terms.proofs.First.{goes-on, none-left, stops-at}
 use Rattle.sheet.specs.Reading.{acts, lines-in, reading-refusal, targets, tests-at}
 use Rattle.sheet.specs.declared.record.ActLine.{ActLine}
 use Rattle.sheet.specs.declared.target.Target.{Target}
-use Rattle.sheet.specs.View.{Records, records-in, sheetOf}
+use Rattle.sheet.specs.View.{Records, records-in}
 use Rattle.sheet.specs.Reasons.{reading-reasons}
 use Rattle.sheet.proofs.Reasoned.{reading-settles}
 use Rattle.sheet.proofs.Whole.{acts-more, line-refused, lines-refused, shape-refused, targets-more}
@@ -86,7 +86,7 @@ returns g c =
     let end : i ≡ lines-in sheet = omega arith in
     let e : reading-refusal m s sheet ≡ None =
       lines-refused m s sheet (w .0) ∙ sym (inv .6) ∙ none-left (tests-at m s sheet) i (lines-in sheet) (omega arith) in
-    let all : sheetOf (record { targets = c .loop-i .targets; acts = c .loop-i .acts; lines = c .in-Some .lines }) ≡ records-in sheet =
+    let all : _≡_ {A = Records} (record { targets = vec-items (c .loop-i .targets); acts = vec-items (c .loop-i .acts); lines = c .in-Some .lines }) (records-in sheet) =
       same (inv .0 ∙ ap (targets sheet) end) (inv .1 ∙ ap (acts sheet) end) (w .1) in
     record { value = (e, all); words = subst (Settles (reading-reasons m s sheet)) e (reading-settles m s sheet) }
   where
