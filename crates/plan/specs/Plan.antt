@@ -1,14 +1,15 @@
 -- Plans: actions, when they run, where they start and end, and how high they leave the columns. Assumes nothing.
 use mathlib.Core.Path.{_≡_}
-use mathlib.Core.Bool.{Bool, true, false, not, _&&_, _||_}
+use mathlib.Core.Bool.{Bool, true, false, _&&_}
 use mathlib.Core.List.{List, [], _∷_}
 use mathlib.Core.Logic.{_≢_, _⊎_}
-use Prim.Native.Nat.{ℕ, _-_, _≤_, _<_, max, min}
-use lib.Dec.{leb, ltb, eqb}
+use Prim.Native.Nat.{ℕ, _-_, _≤_, _<_, max}
+use lib.Dec.{leb, eqb}
 use lib.ListN.{length, getD}
 use Rattle.std.specs.shelf.Lists.{countBy}
 use Rattle.terms.specs.declared.work.Work.{Work}
 use Rattle.terms.specs.declared.work.Work.the-variants.{Entry, Leave, Wait, Move, PickUp, Deliver}
+use Rattle.plan.specs.Times.{held}
 
 -- an action, of the line of a number. Its robot is at `from` (of an entry: the column entered); `to` is the other column, and is
 -- `from` where there is no other
@@ -91,7 +92,7 @@ pub record Runs (a : Action) (t : ℕ) : Type 0 where
   pub before-end : t < a .end
 
 abbrev pub runs : ℕ → Action → Bool
-runs t a = leb (a .start) t && ltb t (a .end)
+runs t a = held (a .start) (a .end) t
 
 abbrev pub Touches : Action → ℕ → Type 0
 Touches a c = (a .from ≡ c) ⊎ (a .to ≡ c)

@@ -1,5 +1,7 @@
 // Plans: the actions that lines of a sheet stand for, and the rules that a line has to keep by itself.
 mod action;
+mod asked;
+mod line;
 mod span;
 mod spans;
 

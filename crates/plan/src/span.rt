@@ -3,7 +3,7 @@ ghost use Prim.Native.Nat.{_<_};
 
 #[derive(Clone, Copy)]
 pub struct Span {
-    start: u32,
-    end: u32,
+    pub(crate) start: u32,
+    pub(crate) end: u32,
     ghost ordered: { start < end },
 }

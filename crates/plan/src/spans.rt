@@ -4,7 +4,7 @@ ghost use mathlib.Core.Bool.{true};
 ghost use Prim.Native.Nat.{ℕ, _-_, _≤_};
 ghost use Rattle.std.specs.Options.{Cases as BySome};
 ghost use Rattle.std.specs.Orderings.{Decides};
-ghost use Rattle.plan.specs.Times.{Holds};
+ghost use Rattle.plan.specs.Times.{Holds, held};
 ghost use Rattle.plan.specs.View.{startOf, endOf};
 use crate::Span;
 
@@ -37,7 +37,7 @@ impl Span {
 
     // Whether it holds a timestep.
     pub fn holds(&self, time: u32) -> bool
-        ensures { λ r. ⌜ Decides r (Holds (startOf (now (self .entry))) (endOf (now (self .entry))) time) ⌝ }
+        ensures { λ r. ⌜ r ≡ held (startOf (now (self .entry))) (endOf (now (self .entry))) time ⌝ }
     {
         self.start <= time && time < self.end
     }
