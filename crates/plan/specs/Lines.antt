@@ -84,8 +84,8 @@ top Deliver h = suc h
 -- whether the columns are on the ground, and come no higher than the highest height
 abbrev pub on-scale : Meaning → Site-settings → Action → Bool
 on-scale m s a =
-    ltb (a .from) (m .columns)
-    && (ltb (a .to) (m .columns) && (ltb (top (a .work) (a .from-height)) (s .levels) && ltb (top (a .work) (a .to-height)) (s .levels)))
+    (ltb (a .from) (m .columns) && ltb (top (a .work) (a .from-height)) (s .levels))
+    && (ltb (a .to) (m .columns) && ltb (top (a .work) (a .to-height)) (s .levels))
 
 -- whether the work can be done from a column f to another, o
 abbrev pub joins : Meaning → Work → ℕ → ℕ → Bool

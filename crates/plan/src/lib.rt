@@ -7,4 +7,5 @@ mod spans;
 
 pub use action::Action;
 pub use action::Spot;
+pub use line::action_of;
 pub use span::Span;
