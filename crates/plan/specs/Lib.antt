@@ -3,3 +3,5 @@ pub mod Plan
 pub mod Lines
 pub mod Asking
 pub mod View
+pub mod Rules
+pub mod Judged

@@ -1,6 +1,6 @@
 -- Plans: actions, when they run, where they start and end, and how high they leave the columns. Assumes nothing.
 use mathlib.Core.Path.{_≡_}
-use mathlib.Core.Bool.{Bool, true, false, _&&_}
+use mathlib.Core.Bool.{Bool, true, false, not, _&&_, _||_}
 use mathlib.Core.List.{List, [], _∷_}
 use mathlib.Core.Logic.{_≢_, _⊎_}
 use Prim.Native.Nat.{ℕ, _-_, _≤_, _<_, max}
@@ -108,6 +108,21 @@ pub record Starts (a : Action) (t c : ℕ) : Type 0 where
   pub no-entry : a .work ≢ Entry
   pub when : a .start ≡ t
   pub where-from : a .from ≡ c
+
+abbrev pub ends : ℕ → ℕ → Action → Bool
+ends t c a = not (is-leave (a .work)) && (eqb (a .end) t && eqb (end-column a) c)
+
+abbrev pub starts : ℕ → ℕ → Action → Bool
+starts t c a = not (is-entry (a .work)) && (eqb (a .start) t && eqb (a .from) c)
+
+-- whether some element of a list passes a test
+abbrev pub some-of : {X : Type 0} → (X → Bool) → List X → Bool
+some-of p [] = false
+some-of p (x ∷ xs) = p x || some-of p xs
+
+-- whether some action of the plan starts at the time t from the column c
+abbrev pub carried : List Action → ℕ → ℕ → Bool
+carried plan t c = some-of (starts t c) plan
 
 -- delivered to the column c by the time t; picked up from it
 abbrev pub delivers : ℕ → ℕ → Action → Bool
