@@ -97,6 +97,9 @@ runs t a = held (a .start) (a .end) t
 abbrev pub Touches : Action → ℕ → Type 0
 Touches a c = (a .from ≡ c) ⊎ (a .to ≡ c)
 
+abbrev pub shares : Action → Action → Bool
+shares a b = eqb (a .from) (b .from) || (eqb (a .from) (b .to) || (eqb (a .to) (b .from) || eqb (a .to) (b .to)))
+
 -- the action, no leave, ends at the time t at the column c
 pub record Ends (a : Action) (t c : ℕ) : Type 0 where
   pub no-leave : a .work ≢ Leave

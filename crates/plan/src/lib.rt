@@ -1,5 +1,6 @@
 // Plans: the actions that lines of a sheet stand for, and the rules that a line has to keep by itself.
 mod action;
+mod actions;
 mod asked;
 mod line;
 mod span;
