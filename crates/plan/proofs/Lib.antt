@@ -1,0 +1,4 @@
+pub mod Counts
+pub mod Searches
+pub mod Busiest
+pub mod Judged
