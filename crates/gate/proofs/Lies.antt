@@ -20,7 +20,7 @@ use Rattle.gate.specs.Column.{fresh, robot}
 use Rattle.gate.specs.Scene.{Columns, height-at, state-at, lying}
 use Rattle.gate.specs.Gate.{stranded-by, lowest-stranded}
 
-heights-read : (xs : Columns) (c : ℕ) → heights-by (λ (x : Column). x .height) xs c ≡ height-at xs c
+pub heights-read : (xs : Columns) (c : ℕ) → heights-by (λ (x : Column). x .height) xs c ≡ height-at xs c
 heights-read xs c = elim (cases-lt c (length xs)) [
   | inl l ↦ getD-map (λ (x : Column). x .height) xs c fresh 0 l
   | inr g ↦ getD-past (map (λ (x : Column). x .height) xs) c 0 (omega (arith, length-map xs (λ (x : Column). x .height))) ∙ ap (λ (x : Column). x .height) (sym (getD-past xs c fresh g))
