@@ -146,7 +146,7 @@ module _ (v : Scene) (law : Lawful (v .meaning)) where
   decide (Lay c d) =
       let load = decides-not (carries (state-at (v .columns) c)) (itself (carries (state-at (v .columns) c))) in
       let heights = not-both-but (eqb (height-at (v .columns) c) (height-at (v .columns) d)) (leb (v .settings .levels) (suc (height-at (v .columns) d)))
-            (decides-eqb (height-at (v .columns) c) (height-at (v .columns) d)) (room-decides (v .settings .levels) (suc (height-at (v .columns) d))) in
+      (decides-eqb (height-at (v .columns) c) (height-at (v .columns) d)) (room-decides (v .settings .levels) (suc (height-at (v .columns) d))) in
       (both-on c d, refl, (no-stand c, refl, (load, refl, (no-link c d, refl, (held-decides (state-at (v .columns) d), refl, (heights, refl, (strands-decides v law d, refl, tt)))))))
   decide (Lift c d) =
       let load = itself (carries (state-at (v .columns) c)) in

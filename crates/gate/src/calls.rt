@@ -31,9 +31,17 @@ impl<G: Ground> Site<G> {
         G: Drop,
         ensures { λ r. ⌜ made r (λ site. sceneOf (G·Ground .meaning) site ≡ opened (G·Ground .meaning ground) (settingsOf settings)) ⌝ }
     {
-        let fresh = Column { height: 0, state: State::Free };
+        let fresh = Column {
+            height: 0,
+            state: State::Free,
+        };
         let columns = Vec::from_elem(heap, fresh, ground.columns() as usize)?;
-        Ok(Site { ground, settings, columns, marks: [0; 256] })
+        Ok(Site {
+            ground,
+            settings,
+            columns,
+            marks: [0; 256],
+        })
     }
 
     // Puts a column into a state, at the height that it has.
@@ -63,7 +71,13 @@ impl<G: Ground> Site<G> {
             return Err(Refusal::plain(rule));
         }
         let left = self.settings.duration(Work::Entry, block);
-        self.put(column, State::Busy { part: Part::Entering { block }, left });
+        self.put(
+            column,
+            State::Busy {
+                part: Part::Entering { block },
+                left,
+            },
+        );
         Ok(())
     }
 
@@ -76,7 +90,13 @@ impl<G: Ground> Site<G> {
         }
         let block = self.look(from).state.has_block();
         let left = self.settings.duration(Work::Move, block);
-        self.begin(from, Part::Departing { block, to }, to, Part::Arriving { block, from }, left);
+        self.begin(
+            from,
+            Part::Departing { block, to },
+            to,
+            Part::Arriving { block, from },
+            left,
+        );
         Ok(())
     }
 
@@ -119,7 +139,13 @@ impl<G: Ground> Site<G> {
         }
         let block = self.look(column).state.has_block();
         let left = self.settings.duration(Work::Leave, block);
-        self.put(column, State::Busy { part: Part::Leaving { block }, left });
+        self.put(
+            column,
+            State::Busy {
+                part: Part::Leaving { block },
+                left,
+            },
+        );
         Ok(())
     }
 

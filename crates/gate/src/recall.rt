@@ -41,7 +41,11 @@ impl<G: Ground> Site<G> {
     fn robot_steps(&self, ways: &Ways, column: u16) -> Option<u16>
         ensures { λ r. ⌜ r ≡ robot-steps (sceneOf (G·Ground .meaning) (now (self .entry)) .columns) (stepsIn (now (ways .entry))) column ⌝ }
     {
-        if self.look(column).state.has_robot() { ways.steps(column) } else { None }
+        if self.look(column).state.has_robot() {
+            ways.steps(column)
+        } else {
+            None
+        }
     }
 
     // The column of the robot with the fewest steps home, and these steps.
@@ -92,7 +96,11 @@ impl<G: Ground> Site<G> {
             return Err(Refusal::plain(Rule::NoRobot));
         };
         let next = self.next(&ways, column, steps);
-        Ok(Order { column, next, left: self.toll(&ways) })
+        Ok(Order {
+            column,
+            next,
+            left: self.toll(&ways),
+        })
     }
 }
 

@@ -35,7 +35,7 @@ returns-in-Some-try-change g c =
     let v = sceneOf (g .G·Ground .meaning) (c .args .self .now) in
     let o = lowest-stranded (v .meaning) (v .columns) (tried v (c .args .to)) in
     let found = c .in-Some-try-change .ensures tt .answer
-          ∙ ap (λ (xs : Columns). lowest-stranded (v .meaning) xs (lying xs (λ e. eqb e (c .args .to) || marked (v .marks) e))) (c .deref .ensures .value) in
+    ∙ ap (λ (xs : Columns). lowest-stranded (v .meaning) xs (lying xs (λ e. eqb e (c .args .to) || marked (v .marks) e))) (c .deref .ensures .value) in
     performed v (g .G·Ground·met .lawful (c .args .self .now .ground)) (Lay (c .args .from) (c .args .to)) (Some (toldOf (c .at .result))) (with-marks v (c .try-change .last .marks))
     (ap Some (c .at .ensures) ∙ by-trial (lay-tests (v .meaning) (v .settings) (v .columns) (c .args .from) (c .args .to)) o (c .in-rest .ensures tt) found) (ap (with-marks v) (c .in-Some-try-change .ensures tt .marks))
 
@@ -44,7 +44,7 @@ returns g c =
     let v = sceneOf (g .G·Ground .meaning) (c .args .self .now) in
     let o = lowest-stranded (v .meaning) (v .columns) (tried v (c .args .to)) in
     let found = c .in-rest-try-change .ensures tt .answer
-          ∙ ap (λ (xs : Columns). lowest-stranded (v .meaning) xs (lying xs (λ e. eqb e (c .args .to) || marked (v .marks) e))) (c .deref .ensures .value) in
+    ∙ ap (λ (xs : Columns). lowest-stranded (v .meaning) xs (lying xs (λ e. eqb e (c .args .to) || marked (v .marks) e))) (c .deref .ensures .value) in
     let begun : ℕ → Columns = λ n. put (put (v .columns) (c .args .from) (Busy (Laying (c .args .to)) n)) (c .args .to) (Busy (Rising (c .args .from)) n) in
     performed v (g .G·Ground·met .lawful (c .args .self .now .ground)) (Lay (c .args .from) (c .args .to)) None (sceneOf (g .G·Ground .meaning) (c .begin .last .self))
     (by-none (lay-tests (v .meaning) (v .settings) (v .columns) (c .args .from) (c .args .to)) o (c .in-rest .ensures tt) found)
