@@ -1,0 +1,16 @@
+pub mod Plain
+pub mod Seen
+pub mod Kept
+pub mod Turns
+pub mod Ticks
+pub mod Grants
+pub mod Asked
+pub mod Allowed
+pub mod Calls
+pub mod Apart
+pub mod Ends
+pub mod Due
+pub mod Least
+pub mod Blocks
+pub mod Tolls
+pub mod Clears
