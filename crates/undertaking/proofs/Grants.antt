@@ -70,10 +70,10 @@ not-sinking p h e f i = absurd (both-ways (changes-in p) e (ap changes-in i))
 
 module _ (m : Meaning) (s : Site-settings) (xs ys : Columns) (k : Kept m s xs) (c : ℕ) (p : Part) (n : ℕ) (b : Put xs ys c (Busy p n)) (in′ : c < m .columns)
     (idle : runs (state-at xs c) ≡ false) (time : 1 ≤ n) (q : Lone p) where
-  heights-put : (e : ℕ) → height-at ys e ≡ height-at xs e
+  pub heights-put : (e : ℕ) → height-at ys e ≡ height-at xs e
   heights-put = put-all b (λ e x. x .height ≡ height-at xs e) refl (λ _ _. refl)
 
-  still-put : (e : ℕ) (r : Part) (j : ℕ) → state-at xs e ≡ Busy r j → state-at ys e ≡ Busy r j
+  pub still-put : (e : ℕ) (r : Part) (j : ℕ) → state-at xs e ≡ Busy r j → state-at ys e ≡ Busy r j
   still-put e r j =
       put-all b (λ e x. state-at xs e ≡ Busy r j → x .state ≡ Busy r j) (λ i. absurd (both-ways (runs (state-at xs c)) idle (ap runs i))) (λ _ _ i. i) e
 
@@ -148,10 +148,10 @@ pub record Ready (m : Meaning) (s : Site-settings) (xs : Columns) (c d : ℕ) (p
 
 module _ (m : Meaning) (s : Site-settings) (xs ys : Columns) (k : Kept m s xs) (c d : ℕ) (p : Part) (n : ℕ) (b : Begun xs ys c d p n)
     (y : Ready m s xs c d p n) (q : Giver c d p) where
-  heights-begin : (e : ℕ) → height-at ys e ≡ height-at xs e
+  pub heights-begin : (e : ℕ) → height-at ys e ≡ height-at xs e
   heights-begin = begun-all b (λ e x. x .height ≡ height-at xs e) refl refl (λ _ _ _. refl)
 
-  still-begin : (e : ℕ) (r : Part) (j : ℕ) → state-at xs e ≡ Busy r j → state-at ys e ≡ Busy r j
+  pub still-begin : (e : ℕ) (r : Part) (j : ℕ) → state-at xs e ≡ Busy r j → state-at ys e ≡ Busy r j
   still-begin e r j =
       begun-all b (λ e x. state-at xs e ≡ Busy r j → x .state ≡ Busy r j)
       (λ i. absurd (false≢true (sym (ap runs (y .stood)) ∙ ap runs i))) (λ i. absurd (false≢true (sym (ap runs (y .was-free)) ∙ ap runs i))) (λ _ _ _ i. i) e

@@ -14,3 +14,8 @@ pub mod Least
 pub mod Blocks
 pub mod Tolls
 pub mod Clears
+pub mod Scenes
+pub mod Enduring
+pub mod Lasted
+pub mod Reading
+pub mod Undertaken

@@ -74,7 +74,7 @@ changes-rest : (o : Option Bool) → changes (rest o) ≡ false
 changes-rest None = refl
 changes-rest (Some b) = refl
 
-built-settled : (p : Part) (h : ℕ) → changes-in p ≡ false → built p h ≡ h
+pub built-settled : (p : Part) (h : ℕ) → changes-in p ≡ false → built p h ≡ h
 built-settled (Entering b) h e = refl
 built-settled (Leaving b) h e = refl
 built-settled (Departing b d) h e = refl
