@@ -1,4 +1,7 @@
 // What is undertaken of a site: it is opened, and a whole list of calls is made.
 mod answer;
+mod performing;
 
 pub use answer::Answer;
+pub use performing::Performance;
+pub use performing::perform;
