@@ -38,7 +38,7 @@ fn answer_of(result: Result<(), Refusal>) -> Answer
 }
 
 // Makes one call.
-fn make<G: Ground>(site: &mut Site<G>, call: Call) -> Answer
+pub(crate) fn make<G: Ground>(site: &mut Site<G>, call: Call) -> Answer
     ensures answer { λ r. ⌜ replyOf r ≡ reply (sceneOf (G·Ground .meaning) (now (site .entry))) call ⌝ }
     ensures after { λ _. ⌜ sceneOf (G·Ground .meaning) (now (site .exit)) ≡ step (sceneOf (G·Ground .meaning) (now (site .entry))) call ⌝ }
 {
