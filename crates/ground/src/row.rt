@@ -37,7 +37,7 @@ impl Row {
     }
 
     // Link number k of the row, if there are so many.
-    pub fn at(&self, k: usize) -> Option<u16>
+    pub(crate) fn at(&self, k: usize) -> Option<u16>
         requires { ⌜ now self .count ≤ 6 ⌝ ∗ ⌜ length (now self .to) ≡ 6 ⌝ }
         ensures { λ r. ⌜ r ≡ nth (entries (now (self .entry))) k ⌝ }
     {
