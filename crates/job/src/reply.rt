@@ -46,8 +46,20 @@ pub fn answer(input: &[u8], desk: Desk) -> Vec<u8>
 {
     let Desk { room, mut text } = desk;
     match read_job(input, room) {
-        Ok(sheet) => put_row(&mut text, b"READ", sheet.targets.len() as u32, sheet.acts.len() as u32, sheet.work()),
-        Err(refusal) => put_row(&mut text, b"BAD ", u32::from(refusal.rule.number()), u32::from(refusal.line), u32::from(refusal.detail)),
+        Ok(sheet) => put_row(
+            &mut text,
+            b"READ",
+            sheet.targets.len() as u32,
+            sheet.acts.len() as u32,
+            sheet.work(),
+        ),
+        Err(refusal) => put_row(
+            &mut text,
+            b"BAD ",
+            u32::from(refusal.rule.number()),
+            u32::from(refusal.line),
+            u32::from(refusal.detail),
+        ),
     }
     text
 }

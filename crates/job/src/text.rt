@@ -11,7 +11,11 @@ fn digit_at(n: u32, tens: u32) -> u8
     requires { ⌜ 0 < tens ⌝ }
     ensures { λ r. ⌜ r ≡ place tens n ⌝ }
 {
-    if n >= tens { b'0' + (n / tens % 10) as u8 } else { b' ' }
+    if n >= tens {
+        b'0' + (n / tens % 10) as u8
+    } else {
+        b' '
+    }
 }
 
 // A number justified to the right in six places.

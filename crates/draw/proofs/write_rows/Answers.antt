@@ -52,7 +52,7 @@ part-write-row-end c =
     let split = text-split (chunks-rest (c .loop-row .row-iterator)) (c .in-Some .row .now) (chunks-rest (c .next .last .self)) (s .0) (omega arith) (s .2) in
     let size = length-text (c .args .heights .now) in
     let h = room (c .args .heights .now) (c .loop-row .out) (chunks-rest (c .loop-row .row-iterator)) (c .in-Some .row .now) (chunks-rest (c .next .last .self)) (c .loop-row .at)
-        (i .3) (omega arith) (i .4) split in
+    (i .3) (omega arith) (i .4) split in
     omega arith
 
 pub loop-row-again : need.loop-row-again
@@ -63,11 +63,15 @@ loop-row-again c =
     let size = length-text (c .args .heights .now) in
     let ys = ap length (c .write-row .ensures) ∙ length-row (c .in-Some .row .now) in
     let h = room (c .args .heights .now) (c .loop-row .out) (chunks-rest (c .loop-row .row-iterator)) (c .in-Some .row .now) (chunks-rest (c .next .last .self)) (c .loop-row .at)
-        (i .3) (omega arith) (i .4) split in
-    (tt, omega arith, omega arith, search (needs, overwrites),
-    drawn (c .args .heights .now) (c .loop-row .out) (chunks-rest (c .loop-row .row-iterator)) (c .in-Some .row .now) (chunks-rest (c .next .last .self)) (c .write-row .last .out) (c .loop-row .at) _ _
-        (i .3) (omega arith) (c .write-row .ensures) (i .4) split,
-    behind (c .loop-row .out) (c .args .out .now) (c .write-row .last .out) (c .loop-row .at) _ _ (i .3) (omega arith) (omega arith) (i .5))
+    (i .3) (omega arith) (i .4) split in (
+      tt,
+      omega arith,
+      omega arith,
+      search (needs, overwrites),
+      drawn (c .args .heights .now) (c .loop-row .out) (chunks-rest (c .loop-row .row-iterator)) (c .in-Some .row .now) (chunks-rest (c .next .last .self)) (c .write-row .last .out) (c .loop-row .at) _ _
+          (i .3) (omega arith) (c .write-row .ensures) (i .4) split,
+      behind (c .loop-row .out) (c .args .out .now) (c .write-row .last .out) (c .loop-row .at) _ _ (i .3) (omega arith) (omega arith) (i .5),
+    )
 
 pub returns : need.returns
 returns c =
