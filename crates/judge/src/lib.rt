@@ -1,0 +1,3 @@
+// Judging: whether a plan sheet keeps every rule, and what an accepted plan comes to.
+mod above;
+mod rules;
