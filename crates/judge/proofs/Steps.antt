@@ -10,6 +10,8 @@ use Rattle.std.proofs.shelf.Lists.{at-drop-all, at-drop-more, map-more, take-al
 use Rattle.std.proofs.shelf.Sums.{sumBy-push}
 use Rattle.plan.specs.Plan.{some-of}
 use Rattle.plan.proofs.Counts.{unit}
+use Rattle.std.specs.declared.option.Option.the-variants.{Some, None}
+use Rattle.judge.specs.Finding.{find}
 
 module _ {X Y : Type 0} (f : X → Y) where
   -- the next element, and what is left behind it
@@ -30,6 +32,17 @@ module _ {X Y : Type 0} (f : X → Y) where
 
   pub some-none : (p : Y → Bool) (xs : List X) (i : ℕ) → length xs ≤ i → some-of p (map f (drop i xs)) ≡ some-of p (map f xs) → false ≡ some-of p (map f xs)
   some-none p xs i l inv = sym (at-end (some-of p) xs i l) ∙ inv
+
+  pub find-here : (p : Y → Bool) (xs : List X) (i : ℕ) (x : X) → i < length xs → x ≡ getD xs i x → p (f x) ≡ true
+      → find p (map f (drop i xs)) ≡ find p (map f xs) → find p (map f xs) ≡ Some (f x)
+  find-here p xs i x l e t inv = sym inv ∙ next (find p) xs i x l e ∙ ap (λ (b : Bool). cond b (Some (f x)) (find p (map f (drop (i + 1) xs)))) t
+
+  pub find-later : (p : Y → Bool) (xs : List X) (i : ℕ) (x : X) → i < length xs → x ≡ getD xs i x → p (f x) ≡ false
+      → find p (map f (drop i xs)) ≡ find p (map f xs) → find p (map f (drop (i + 1) xs)) ≡ find p (map f xs)
+  find-later p xs i x l e t inv = sym (next (find p) xs i x l e ∙ ap (λ (b : Bool). cond b (Some (f x)) (find p (map f (drop (i + 1) xs)))) t) ∙ inv
+
+  pub find-none : (p : Y → Bool) (xs : List X) (i : ℕ) → length xs ≤ i → find p (map f (drop i xs)) ≡ find p (map f xs) → find p (map f xs) ≡ None
+  find-none p xs i l inv = sym inv ∙ at-end (find p) xs i l
 
   pub sum-more : (g : Y → ℕ) (xs : List X) (i : ℕ) (x : X) → i < length xs → x ≡ getD xs i x
       → sumBy g (map f (take (i + 1) xs)) ≡ sumBy g (map f (take i xs)) + g (f x)

@@ -2,7 +2,7 @@
 use mathlib.Core.Path.{_≡_}
 use mathlib.Core.Bool.{Bool, true, cond, not, _&&_}
 use mathlib.Core.List.{List, [], _∷_}
-use Prim.Native.Nat.{ℕ, _≤_, _<_}
+use Prim.Native.Nat.{ℕ, _≤_, _<_, min}
 use lib.Dec.{leb, ltb}
 use lib.ListN.{length}
 use Rattle.std.specs.Options.{mapped}
@@ -17,6 +17,11 @@ find p (x ∷ xs) = cond (p x) (Some x) (find p xs)
 
 abbrev pub lineIn : Option Action → Option ℕ
 lineIn o = mapped (λ a. a .line) o
+
+-- the lower of a column and what is the lowest so far
+abbrev pub lower-of : Option ℕ → ℕ → ℕ
+lower-of None c = c
+lower-of (Some d) c = min d c
 
 -- the lowest end column of those that pass a test, if there are any
 abbrev pub Lowest : (Action → Bool) → List Action → Option ℕ → Type 0

@@ -5,9 +5,10 @@ ghost use Prim.Native.Nat.{_<_};
 ghost use lib.Dec.{ltb};
 ghost use Rattle.std.specs.Options.{mapped};
 ghost use Rattle.terms.specs.View.{settingsOf};
+ghost use Rattle.plan.specs.Plan.{some-of};
 ghost use Rattle.plan.specs.View.{actionOf, planOf};
-ghost use Rattle.judge.specs.Judging.{falls, fits, heights-fit, collide, from-somewhere, crowd};
-ghost use Rattle.judge.specs.Finding.{find, Lowest, left-between, lineIn};
+ghost use Rattle.judge.specs.Judging.{falls, fits, heights-fit, collide, goes-on-from, from-somewhere, crowd};
+ghost use Rattle.judge.specs.Finding.{find, Lowest, left-between, lineIn, lower-of};
 use crate::above::height_at;
 use crate::above::is_carried_on;
 use crate::above::running_at;
@@ -34,6 +35,29 @@ fn is_left(above: &[Action], action: &Action, since: u32, until: u32) -> bool
         Work::Leave => false,
         _ => end >= since && end < until && !is_carried_on(above, end, action.end_column()),
     }
+}
+
+// The lower of a column and what is the lowest so far.
+fn lower(lowest: Option<u16>, column: u16) -> u16
+    ensures { λ r. ⌜ r ≡ lower-of lowest column ⌝ }
+{
+    match lowest {
+        Some(lowest) if lowest < column => lowest,
+        _ => column,
+    }
+}
+
+// The lowest column at which a robot was left standing in some stretch of time.
+fn left_standing(above: &[Action], since: u32, until: u32) -> Option<u16>
+    ensures { λ r. ⌜ Lowest (left-between (planOf (now (above .entry))) since until) (planOf (now (above .entry))) r ⌝ }
+{
+    let mut lowest = None;
+    for action in above {
+        if is_left(above, action, since, until) {
+            lowest = Some(lower(lowest, action.end_column()));
+        }
+    }
+    lowest
 }
 
 // Whether written heights are right for a work between columns of some heights.
@@ -65,6 +89,47 @@ fn is_colliding(one: &Action, other: &Action) -> bool
     ensures { λ r. ⌜ r ≡ collide (actionOf (now (one .entry))) (actionOf (now (other .entry))) ⌝ }
 {
     one.span.overlaps(&other.span) && one.shares(other)
+}
+
+// The line of the first action above that collides with an action.
+fn first_collision(above: &[Action], action: &Action) -> Option<u16>
+    ensures { λ r. ⌜ r ≡ lineIn (find (λ b. collide b (actionOf (now (action .entry)))) (planOf (now (above .entry)))) ⌝ }
+{
+    for other in above {
+        if is_colliding(other, action) {
+            return Some(other.line);
+        }
+    }
+    None
+}
+
+// Whether an action goes on where and when another ended, with the same carry.
+fn is_going_on(action: &Action, other: &Action) -> bool
+    ensures { λ r. ⌜ r ≡ goes-on-from (actionOf (now (action .entry))) (actionOf (now (other .entry))) ⌝ }
+{
+    other.ends(action.span.start(), action.from.column) && other.carry_after() == action.carry
+}
+
+// Whether an action goes on where some action above ended.
+fn is_following(above: &[Action], action: &Action) -> bool
+    ensures { λ r. ⌜ r ≡ some-of (goes-on-from (actionOf (now (action .entry)))) (planOf (now (above .entry))) ⌝ }
+{
+    for other in above {
+        if is_going_on(action, other) {
+            return true;
+        }
+    }
+    false
+}
+
+// Whether an action is an entry or goes on where some action above ended.
+fn is_from_somewhere(above: &[Action], action: &Action) -> bool
+    ensures { λ r. ⌜ r ≡ from-somewhere (planOf (now (above .entry))) (actionOf (now (action .entry))) ⌝ }
+{
+    match action.work {
+        Work::Entry => true,
+        _ => is_following(above, action),
+    }
 }
 
 // Whether more spans than there may be robots hold the start of an action, its own among them.
