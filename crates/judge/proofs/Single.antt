@@ -10,15 +10,15 @@ use Rattle.std.specs.Orderings.{Decides}
 use Rattle.std.specs.shelf.Lists.{countBy}
 use Rattle.std.proofs.shelf.Lists.{getD-map, length-map, nil-from-length}
 use Rattle.std.proofs.shelf.Sums.{sumBy-push}
-use Rattle.std.proofs.shelf.Tests.{le-ltb, le-leb, lt-ltb, ltb-true}
-use Rattle.std.proofs.shelf.Ways.{same-from-decides, tells}
+use Rattle.std.proofs.shelf.Tests.{lt-ltb, ltb-true}
+use Rattle.std.proofs.shelf.Ways.{tells}
 use Rattle.plan.specs.declared.action.Action.{Action as Held}
-use Rattle.plan.specs.Plan.{Action, Runs, line, no-action, runs}
+use Rattle.plan.specs.Plan.{Action, line, no-action, runs}
 use Rattle.plan.specs.Times.{Holds}
 use Rattle.plan.specs.View.{actionOf, planOf}
 use Rattle.plan.proofs.Counts.{unit}
 use Rattle.plan.proofs.Searches.{decides-runs}
-use Rattle.judge.specs.Judging.{crowd, falls, overlap}
+use Rattle.judge.specs.Judging.{crowd, latest-start, overlap}
 
 -- a time in both spans is at the later start, if anywhere
 pub decides-overlap : (a b : Action) → Decides (overlap a b) ((t : ℕ) × Holds (a .start) (a .end) t × Holds (b .start) (b .end) t)
@@ -27,16 +27,15 @@ decides-overlap a b =
     λ w. lt-ltb _ _ (omega arith))
 
 -- no action before, or the last of them
-pub falls-none : (above : List Held) (a : Action) → length above ≡ 0 → false ≡ falls (planOf above) a
-falls-none above a e = sym (ap (λ (xs : List Held). falls (planOf xs) a) (nil-from-length above e) ∙ le-ltb (a .start) 0 (omega arith))
+pub latest-none : (above : List Held) → length above ≡ 0 → 0 ≡ latest-start (planOf above)
+latest-none above e = sym (ap (λ (xs : List Held). latest-start (planOf xs)) (nil-from-length above e))
 
-pub falls-last : (above : List Held) (a : Action) (x : Held) → 0 < length above → x ≡ getD above (length above - 1) x
-    → ltb (a .start) (actionOf x .start) ≡ falls (planOf above) a
-falls-last above a x l e =
+pub latest-last : (above : List Held) (x : Held) → 0 < length above → x ≡ getD above (length above - 1) x → actionOf x .start ≡ latest-start (planOf above)
+latest-last above x l e =
     let n : length (planOf above) ≡ length above = length-map above actionOf in
-    ap (λ (y : Held). ltb (a .start) (actionOf y .start)) e
-    ∙ ap (λ (y : Action). ltb (a .start) (y .start)) (sym (getD-map actionOf above (length above - 1) x no-action (omega arith)))
-    ∙ ap (λ (k : ℕ). ltb (a .start) (line (planOf above) (k - 1) .start)) (sym n)
+    ap (λ (y : Held). actionOf y .start) e
+    ∙ ap (λ (y : Action). y .start) (sym (getD-map actionOf above (length above - 1) x no-action (omega arith)))
+    ∙ ap (λ (k : ℕ). line (planOf above) (k - 1) .start) (sym n)
 
 -- an action holds its own start
 pub crowded : (most n : ℕ) (above : List Action) (a : Action) → a .start < a .end → n ≡ countBy (runs (a .start)) above → leb most n ≡ ltb most (crowd above a)

@@ -20,9 +20,13 @@ use Rattle.plan.specs.Lines.{alike, line-tests}
 use Rattle.plan.specs.Plan.{Action, carried, carry-after, end-column, ends, height-at, is-entry, is-leave, line, makespan, runs, shares, some-of}
 use Rattle.plan.specs.Rules.{plan-of, target-of, written}
 
+-- when the last action starts, 0 where there is none
+abbrev pub latest-start : List Action → ℕ
+latest-start above = line above (length above - 1) .start
+
 -- the start is below that of the action before
 abbrev pub falls : List Action → Action → Bool
-falls above a = ltb (a .start) (line above (length above - 1) .start)
+falls above a = ltb (a .start) (latest-start above)
 
 -- an action above, no leave, ended at the column c before the time t, and none above starts there then
 abbrev pub left-by : List Action → ℕ → ℕ → Action → Bool
@@ -63,7 +67,7 @@ abbrev pub crowd : List Action → Action → ℕ
 crowd above a = countBy (runs (a .start)) (above ++ (a ∷ []))
 
 -- what refuses action a below those above it
-abbrev pub judge-tests : Meaning → Site-settings → List Action → Action → List (Bool × Told)
+unfoldable pub judge-tests : Meaning → Site-settings → List Action → Action → List (Bool × Told)
 judge-tests m s above a =
     (falls above a, told StartFalls (a .line) 0)
     ∷ (from-on (λ c. (left-standing above (a .start) c, told LeftStanding (a .line) c) ∷ []) 0 (m .columns)

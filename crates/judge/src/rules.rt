@@ -4,26 +4,41 @@ ghost use mathlib.Core.Bool.{not};
 ghost use Prim.Native.Nat.{_<_};
 ghost use lib.Dec.{ltb};
 ghost use Rattle.std.specs.Options.{mapped};
+ghost use Rattle.terms.specs.Refusals.{Answers, first-of, or-else, toldOf};
 ghost use Rattle.terms.specs.View.{settingsOf};
+ghost use Rattle.ground.specs.Meaning.{Meaning};
+ghost use Rattle.plan.specs.Lines.{action-of, line-tests};
 ghost use Rattle.plan.specs.Plan.{some-of};
 ghost use Rattle.plan.specs.View.{actionOf, planOf};
-ghost use Rattle.judge.specs.Judging.{falls, fits, heights-fit, collide, goes-on-from, from-somewhere, crowd};
-ghost use Rattle.judge.specs.Finding.{find, Lowest, left-between, lineIn, lower-of};
+ghost use Rattle.judge.specs.Judging.{latest-start, falls, fits, heights-fit, collide, goes-on-from, from-somewhere, crowd, judge-tests};
+ghost use Rattle.judge.specs.Finding.{find, Lowest, left-between, lineIn, lower-of, Settled};
 use crate::above::height_at;
 use crate::above::is_carried_on;
 use crate::above::running_at;
+use ground::Ground;
+use plan::action_of;
 use plan::Action;
+use sheet::ActLine;
+use terms::Refusal;
+use terms::Rule;
 use terms::Settings;
 use terms::Work;
+
+// When the last action starts, 0 where there is none.
+fn latest_start(above: &[Action]) -> u32
+    ensures { λ r. ⌜ r ≡ latest-start (planOf (now (above .entry))) ⌝ }
+{
+    match above.last() {
+        Some(last) => last.span.start(),
+        None => 0,
+    }
+}
 
 // Whether an action starts below the action before it.
 fn is_falling(above: &[Action], action: &Action) -> bool
     ensures { λ r. ⌜ r ≡ falls (planOf (now (above .entry))) (actionOf (now (action .entry))) ⌝ }
 {
-    match above.last() {
-        Some(last) => action.span.start() < last.span.start(),
-        None => false,
-    }
+    action.span.start() < latest_start(above)
 }
 
 // Whether an action, no leave, ended in some stretch of time and is not carried on.
@@ -137,4 +152,43 @@ fn is_crowded(settings: &Settings, above: &[Action], action: &Action) -> bool
     ensures { λ r. ⌜ r ≡ ltb (settingsOf (now (settings .entry)) .robots) (crowd (planOf (now (above .entry))) (actionOf (now (action .entry)))) ⌝ }
 {
     running_at(above, action.span.start()) >= settings.robots() as usize
+}
+
+// The first rule that an action breaks against those above it, if it breaks one.
+fn broken(settings: &Settings, above: &[Action], action: &Action) -> Option<Refusal>
+    ensures { λ r. ⌜ ((m : Meaning) → Settled m (planOf (now (above .entry))) → mapped toldOf r ≡ first-of (judge-tests m (settingsOf (now (settings .entry))) (planOf (now (above .entry))) (actionOf (now (action .entry))))) ⌝ }
+{
+    if is_falling(above, action) {
+        return Some(Refusal::at(Rule::StartFalls, action.line, 0));
+    }
+    if let Some(column) = left_standing(above, latest_start(above), action.span.start()) {
+        return Some(Refusal::at(Rule::LeftStanding, action.line, column));
+    }
+    if !is_level(above, action) {
+        return Some(Refusal::at(Rule::WrongHeightsWritten, action.line, 0));
+    }
+    if let Some(line) = first_collision(above, action) {
+        return Some(Refusal::at(Rule::SpansCollide, action.line, line));
+    }
+    if !is_from_somewhere(above, action) {
+        return Some(Refusal::at(Rule::FromNowhere, action.line, 0));
+    }
+    if is_crowded(settings, above, action) {
+        return Some(Refusal::at(Rule::TooManySpans, action.line, 0));
+    }
+    None
+}
+
+// The action that a line stands for below the actions above it, or the first rule that it breaks.
+pub(crate) fn judge_line<G: Ground>(ground: &G, settings: &Settings, above: &[Action], line: &ActLine) -> Result<Action, Refusal>
+    ensures { λ r. ⌜ (Settled (G·Ground .meaning (now (ground .entry))) (planOf (now (above .entry))) → Answers (or-else (first-of (line-tests (G·Ground .meaning (now (ground .entry))) (settingsOf (now (settings .entry))) (now (line .entry)))) (first-of (judge-tests (G·Ground .meaning (now (ground .entry))) (settingsOf (now (settings .entry))) (planOf (now (above .entry))) (action-of (now (line .entry)))))) (λ a. actionOf a ≡ action-of (now (line .entry))) r) ⌝ }
+{
+    let action = match action_of(ground, settings, line) {
+        Ok(action) => action,
+        Err(refusal) => return Err(refusal),
+    };
+    match broken(settings, above, &action) {
+        Some(refusal) => Err(refusal),
+        None => Ok(action),
+    }
 }
