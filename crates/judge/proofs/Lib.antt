@@ -4,3 +4,4 @@ pub mod Lowest
 pub mod Chains
 pub mod Left
 pub mod Tested
+pub mod Most

@@ -84,11 +84,15 @@ tests-at m s acts k = line-tests m s (written acts k) ++ judge-tests m s (take k
 abbrev pub left-behind : List Action → Action → Bool
 left-behind plan a = not (is-leave (a .work)) && not (carried plan (a .end) (end-column a))
 
+-- the height of column c at time t is not its target
+abbrev pub missed : List Action → (ℕ → ℕ) → ℕ → ℕ → Bool
+missed plan targets t c = not (eqb (height-at plan t c) (targets c))
+
 -- what refuses a plan at the sheet's end, of so many lines
-abbrev pub end-tests : Meaning → List Action → (ℕ → ℕ) → ℕ → List (Bool × Told)
+unfoldable pub end-tests : Meaning → List Action → (ℕ → ℕ) → ℕ → List (Bool × Told)
 end-tests m plan targets lines =
     from-on (λ i. (left-behind plan (line plan i), told LeftBehind (line plan i .line) 0) ∷ []) 0 (length plan)
-    ++ from-on (λ c. (not (eqb (height-at plan (makespan plan) c) (targets c)), told TargetMissed lines c) ∷ []) 0 (m .columns)
+    ++ from-on (λ c. (missed plan targets (makespan plan) c, told TargetMissed lines c) ∷ []) 0 (m .columns)
 
 abbrev pub sheet-tests : Meaning → Site-settings → Records → List (Bool × Told)
 sheet-tests m s r =
