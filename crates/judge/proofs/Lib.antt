@@ -5,3 +5,6 @@ pub mod Chains
 pub mod Left
 pub mod Tested
 pub mod Most
+pub mod Reasoned
+pub mod Silence
+pub mod Exact

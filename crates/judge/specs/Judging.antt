@@ -16,7 +16,7 @@ use Rattle.ground.specs.Meaning.{Meaning}
 use Rattle.sheet.specs.Reading.{reading-refusal}
 use Rattle.sheet.specs.View.{Records, records-in}
 use Rattle.sheet.specs.declared.record.ActLine.{ActLine}
-use Rattle.plan.specs.Lines.{alike, line-tests}
+use Rattle.plan.specs.Lines.{action-of, alike, line-tests}
 use Rattle.plan.specs.Plan.{Action, carried, carry-after, end-column, ends, height-at, is-entry, is-leave, line, makespan, runs, shares, some-of}
 use Rattle.plan.specs.Rules.{plan-of, target-of, written}
 
@@ -78,7 +78,7 @@ judge-tests m s above a =
 
 -- what refuses ACT line k, counted from 0
 abbrev pub tests-at : Meaning → Site-settings → List ActLine → ℕ → List (Bool × Told)
-tests-at m s acts k = line-tests m s (written acts k) ++ judge-tests m s (take k (plan-of acts)) (line (plan-of acts) k)
+tests-at m s acts k = line-tests m s (written acts k) ++ judge-tests m s (take k (plan-of acts)) (action-of (written acts k))
 
 -- an action, no leave, from whose end column no action starts at its end
 abbrev pub left-behind : List Action → Action → Bool

@@ -1,3 +1,4 @@
 pub mod Judging
 pub mod Finding
 pub mod Figures
+pub mod Reasons
