@@ -8,3 +8,7 @@ pub mod Most
 pub mod Reasoned
 pub mod Silence
 pub mod Exact
+pub mod Ended
+pub mod Settling
+pub mod Through
+pub mod Timely

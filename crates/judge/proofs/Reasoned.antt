@@ -11,7 +11,8 @@ use Rattle.std.specs.Orderings.{Decides}
 use Rattle.std.proofs.shelf.Tests.{cases-bool, cases-lt, lt-ltb, ltb-true, or-cases, or-left, or-right, true≢false}
 use Rattle.std.proofs.shelf.Ways.{decides-and, decides-eqb, decides-like, decides-ltb, decides-not, decides-or}
 use Rattle.terms.specs.Durations.{Site-settings}
-use Rattle.terms.specs.Refusals.{Settles, first-of, from-on, told}
+use Rattle.std.specs.declared.option.Option.the-variants.{None}
+use Rattle.terms.specs.Refusals.{Settles, Silent, first-of, from-on, told}
 use Rattle.terms.specs.declared.refusal.Rule.the-variants.{LeftBehind, LeftStanding, SpansCollide, TargetMissed, WrongHeightsWritten}
 use Rattle.terms.specs.declared.work.Work.{Work}
 use Rattle.terms.specs.declared.work.Work.the-variants.{Entry, Leave, Wait, Move, PickUp, Deliver}
@@ -153,12 +154,19 @@ end-decides m plan targets lines =
     (decide-on (λ c. (missed plan targets (makespan plan) c, told TargetMissed lines c) ∷ []) (λ c. record { holds = height-at plan (makespan plan) c ≡ targets c → ⊥; tells = told TargetMissed lines c } ∷ [])
     (λ c. (decides-not (eqb (height-at plan (makespan plan) c) (targets c)) (decides-eqb _ _), refl, tt)) 0 (m .columns))
 
+at-decides : (m : Meaning) (s : Site-settings) (acts : List ActLine) (k : ℕ) → Decide (tests-at m s acts k) (reasons-at m s acts k)
+at-decides m s acts k =
+    decide-append (line-tests m s (written acts k)) (judge-tests m s (take k (plan-of acts)) (action-of (written acts k)))
+    (line-reasons m s (written acts k)) (judge-reasons m s (take k (plan-of acts)) (action-of (written acts k)))
+    (line-decides m s (written acts k)) (judge-decides m s (take k (plan-of acts)) (action-of (written acts k)))
+
+-- a line that is not refused breaks no rule
+pub at-silent : (m : Meaning) (s : Site-settings) (acts : List ActLine) (k : ℕ) → first-of (tests-at m s acts k) ≡ None → Silent (reasons-at m s acts k)
+at-silent m s acts k e = subst (Settles (reasons-at m s acts k)) e (first-settles (tests-at m s acts k) (reasons-at m s acts k) (at-decides m s acts k))
+
 pub sheet-settles : (m : Meaning) (s : Site-settings) (r : Records) → Settles (sheet-reasons m s r) (first-of (sheet-tests m s r))
 sheet-settles m s r =
     first-settles (sheet-tests m s r) (sheet-reasons m s r)
     (decide-append (from-on (tests-at m s (r .acts)) 0 (length (r .acts))) _ (from-on (reasons-at m s (r .acts)) 0 (length (r .acts))) _
-    (decide-on (tests-at m s (r .acts)) (reasons-at m s (r .acts))
-    (λ k. decide-append (line-tests m s (written (r .acts) k)) (judge-tests m s (take k (plan-of (r .acts))) (action-of (written (r .acts) k)))
-    (line-reasons m s (written (r .acts) k)) (judge-reasons m s (take k (plan-of (r .acts))) (action-of (written (r .acts) k))) (line-decides m s (written (r .acts) k))
-    (judge-decides m s (take k (plan-of (r .acts))) (action-of (written (r .acts) k)))) 0 (length (r .acts)))
+    (decide-on (tests-at m s (r .acts)) (reasons-at m s (r .acts)) (at-decides m s (r .acts)) 0 (length (r .acts)))
     (end-decides m (plan-of (r .acts)) (target-of (r .targets)) (r .lines)))

@@ -2,3 +2,4 @@ pub mod Judging
 pub mod Finding
 pub mod Figures
 pub mod Reasons
+pub mod View

@@ -1,5 +1,12 @@
 // Judging: whether a plan sheet keeps every rule, and what an accepted plan comes to.
 mod above;
+mod accepted;
+mod accepting;
 mod end;
 mod figures;
+mod judge;
+mod room;
 mod rules;
+
+pub use accepted::Accepted;
+pub use room::Room;
