@@ -12,3 +12,5 @@ pub mod Ended
 pub mod Settling
 pub mod Through
 pub mod Timely
+pub mod Verdict
+pub mod Figured

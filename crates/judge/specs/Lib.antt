@@ -3,3 +3,4 @@ pub mod Finding
 pub mod Figures
 pub mod Reasons
 pub mod View
+pub mod Verdict

@@ -4,9 +4,10 @@ mod accepted;
 mod accepting;
 mod end;
 mod figures;
-mod judge;
+mod judging;
 mod room;
 mod rules;
 
 pub use accepted::Accepted;
+pub use judging::judge;
 pub use room::Room;

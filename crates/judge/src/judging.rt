@@ -4,20 +4,32 @@ ghost use Prim.Native.Nat.{_≤_};
 ghost use lib.ListN.{length};
 ghost use Rattle.std.specs.Of.Vec.{vec-cap, vec-items, vec-len};
 ghost use Rattle.std.specs.Options.{mapped};
+ghost use Rattle.std.specs.Orderings.{Decides};
+ghost use Rattle.std.specs.Results.{isOk};
 ghost use Rattle.std.specs.Vec.{made};
-ghost use Rattle.terms.specs.Refusals.{Answers, first-of, from-on, toldOf};
+ghost use Rattle.terms.specs.Refusals.{Answers, Settles, first-of, from-on, refusalIn, toldOf};
 ghost use Rattle.terms.specs.View.{settingsOf};
 ghost use Rattle.plan.specs.Plan.{makespan as latest};
 ghost use Rattle.plan.specs.Rules.{plan-of, target-of};
 ghost use Rattle.plan.specs.View.{planOf};
-ghost use Rattle.judge.specs.Judging.{end-tests, tests-at};
+ghost use Rattle.sheet.specs.View.{records-in};
+ghost use Rattle.judge.specs.Judging.{end-tests, judging-refusal, tests-at};
+ghost use Rattle.judge.specs.Reasons.{judging-reasons};
+ghost use Rattle.judge.specs.Verdict.{Accepts, Keeps};
+ghost use Rattle.judge.specs.View.{acceptanceOf};
 use crate::end::first_left_behind;
 use crate::end::first_missed;
+use crate::figures::costs;
+use crate::figures::latest_end;
+use crate::figures::most_at_once;
 use crate::rules::judge_line;
+use crate::Accepted;
 use crate::Room;
 use ground::Ground;
 use plan::Action;
+use sheet::read_sheet;
 use sheet::ActLine;
+use sheet::Sheet;
 use sheet::Target;
 use std::alloc::AllocError;
 use std::alloc::Global;
@@ -67,4 +79,28 @@ fn judge_end<G: Ground>(ground: &G, actions: &[Action], targets: &[Target], end:
         return Some(Refusal::at(Rule::TargetMissed, end, column));
     }
     None
+}
+
+// Judges a sheet for a ground and settings: an accepted plan with its figures, or the first broken rule.
+pub fn judge<G: Ground>(ground: &G, settings: &Settings, sheet: &[u8], room: Room) -> Result<Accepted, Refusal>
+    ensures value { λ r. ⌜ Answers (judging-refusal (G·Ground .meaning (now (ground .entry))) (settingsOf (now (settings .entry))) (now (sheet .entry))) (λ a. Accepts (records-in (now (sheet .entry))) (acceptanceOf a)) r ⌝ }
+    ensures words { λ r. ⌜ Settles (judging-reasons (G·Ground .meaning (now (ground .entry))) (settingsOf (now (settings .entry))) (now (sheet .entry))) (refusalIn r) ⌝ }
+    ensures rules { λ r. ⌜ Decides (isOk r) (Keeps (G·Ground .meaning (now (ground .entry))) (settingsOf (now (settings .entry))) (now (sheet .entry))) ⌝ }
+{
+    let Room { reading, actions } = room;
+    let Sheet { targets, acts, lines } = match read_sheet(ground, settings, sheet, reading) {
+        Ok(read) => read,
+        Err(refusal) => return Err(refusal),
+    };
+    let actions = match judge_lines(ground, settings, acts.as_slice(), actions) {
+        Ok(actions) => actions,
+        Err(refusal) => return Err(refusal),
+    };
+    let makespan = latest_end(actions.as_slice());
+    if let Some(refusal) = judge_end(ground, actions.as_slice(), targets.as_slice(), lines, makespan) {
+        return Err(refusal);
+    }
+    let costs = costs(actions.as_slice());
+    let most = most_at_once(actions.as_slice());
+    Ok(Accepted { actions, targets, makespan, costs, most })
 }

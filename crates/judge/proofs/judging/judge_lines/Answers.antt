@@ -16,7 +16,7 @@ use Rattle.judge.specs.Judging.{tests-at}
 use Rattle.judge.proofs.Settling.{settled-none}
 use Rattle.judge.proofs.Through.{line-refused, plan-all, plan-more, settled-on}
 use Rattle.judge.proofs.Timely.{timed}
-use Rattle.judge.proofs.judge.judge_lines.Needs as need
+use Rattle.judge.proofs.judging.judge_lines.Needs as need
 
 pub loop-line-holds : need.loop-line-holds
 loop-line-holds g c =

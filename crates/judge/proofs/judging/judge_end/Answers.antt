@@ -9,7 +9,7 @@ use Rattle.plan.specs.Rules.{target-of}
 use Rattle.plan.specs.View.{planOf}
 use Rattle.judge.specs.Judging.{missed}
 use Rattle.judge.proofs.Ended.{at-behind, past-behind}
-use Rattle.judge.proofs.judge.judge_end.Needs as need
+use Rattle.judge.proofs.judging.judge_end.Needs as need
 
 pub returns-in-Some : need.returns-in-Some
 returns-in-Some g c =

@@ -8,7 +8,7 @@ use Rattle.plan.specs.Rules.{plan-of}
 use Rattle.plan.specs.View.{planOf}
 use Rattle.judge.specs.Finding.{Settled}
 use Rattle.judge.specs.Judging.{tests-at}
-use Rattle.judge.proofs.judge.judge_lines.Given as given
+use Rattle.judge.proofs.judging.judge_lines.Given as given
 
 -- the actions so far are those of the lines so far and broke no rule; what is left decides as all do
 abbrev pub Inv-loop-line : given.InvT-loop-line
