@@ -13,7 +13,13 @@ fn refused<T: Drop>(made: Result<T, Refusal>) -> u16 {
 
 // The first five columns linked with a column.
 fn linked<G: Ground>(ground: &G, c: u16) -> [Option<u16>; 5] {
-    [ground.link(c, 0), ground.link(c, 1), ground.link(c, 2), ground.link(c, 3), ground.link(c, 4)]
+    [
+        ground.link(c, 0),
+        ground.link(c, 1),
+        ground.link(c, 2),
+        ground.link(c, 3),
+        ground.link(c, 4),
+    ]
 }
 
 #[test]
@@ -30,11 +36,24 @@ fn square_links() -> Result<(), Fail> {
     let Ok(ground) = Square::new(3, 5) else {
         return Err(Fail::new("3 by 5 is refused"));
     };
-    check_eq(linked(&ground, 7), [Some(2), Some(6), Some(8), Some(12), None])?;
+    check_eq(
+        linked(&ground, 7),
+        [Some(2), Some(6), Some(8), Some(12), None],
+    )?;
     check_eq(linked(&ground, 14), [Some(9), Some(13), None, None, None])?;
     check_eq(linked(&ground, 15), [None; 5])?;
-    check_eq([ground.links(7), ground.links(14), ground.links(15)], [4, 2, 0])?;
-    check_eq([is_linked(&ground, 4, 9), is_linked(&ground, 4, 5), is_linked(&ground, 14, 15)], [true, false, false])
+    check_eq(
+        [ground.links(7), ground.links(14), ground.links(15)],
+        [4, 2, 0],
+    )?;
+    check_eq(
+        [
+            is_linked(&ground, 4, 9),
+            is_linked(&ground, 4, 5),
+            is_linked(&ground, 14, 15),
+        ],
+        [true, false, false],
+    )
 }
 
 #[test]
@@ -43,8 +62,22 @@ fn square_border() -> Result<(), Fail> {
         return Err(Fail::new("3 by 5 is refused"));
     };
     check_eq(ground.columns(), 15)?;
-    check_eq([ground.is_border(0), ground.is_border(9), ground.is_border(12)], [true; 3])?;
-    check_eq([ground.is_border(6), ground.is_border(8), ground.is_border(15)], [false; 3])
+    check_eq(
+        [
+            ground.is_border(0),
+            ground.is_border(9),
+            ground.is_border(12),
+        ],
+        [true; 3],
+    )?;
+    check_eq(
+        [
+            ground.is_border(6),
+            ground.is_border(8),
+            ground.is_border(15),
+        ],
+        [false; 3],
+    )
 }
 
 #[test]
@@ -77,6 +110,20 @@ fn listed_tells() -> Result<(), Fail> {
     check_eq(linked(&ground, 3), [Some(0), Some(2), Some(5), None, None])?;
     check_eq(linked(&ground, 7), [None; 5])?;
     check_eq([ground.links(3), ground.links(7)], [3, 0])?;
-    check_eq([ground.is_border(1), ground.is_border(2), ground.is_border(7)], [true, false, false])?;
-    check_eq([is_linked(&ground, 6, 4), is_linked(&ground, 4, 6), is_linked(&ground, 3, 4)], [true, true, false])
+    check_eq(
+        [
+            ground.is_border(1),
+            ground.is_border(2),
+            ground.is_border(7),
+        ],
+        [true, false, false],
+    )?;
+    check_eq(
+        [
+            is_linked(&ground, 6, 4),
+            is_linked(&ground, 4, 6),
+            is_linked(&ground, 3, 4),
+        ],
+        [true, true, false],
+    )
 }

@@ -1,4 +1,5 @@
-use mathlib.Core.Path.{_≡_, sym}
+-- A column that is told is linked, and one that none of the tellings names is not.
+use mathlib.Core.Path.{sym}
 use native.Mathlib.Omega.{arith}
 use Rattle.ground.proofs.Among.{told-linked, untold-apart}
 use Rattle.ground.proofs.linking.is_linked.Needs as need

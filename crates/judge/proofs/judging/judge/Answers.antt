@@ -74,8 +74,8 @@ returns-in-Some g c =
     let r : Records = record { targets = vec-items (c .in-Ok .read .targets); acts = c .as-slice .result .now; lines = c .in-Ok .read .lines } in
     let is : r ≡ records-in sheet = ap (λ (xs : List ActLine). record { targets = vec-items (c .in-Ok .read .targets); acts = xs; lines = c .in-Ok .read .lines }) (c .as-slice .ensures .value) ∙ read .1 in
     let e = at-end m s sheet r (read .0) is (lines .0)
-      ∙ sym (ended m (c .in-Ok .read .lines) (ap planOf (c .as-slice-3 .ensures .value) ∙ lines .1 .0) (c .as-slice-4 .ensures .value))
-      ∙ sym (c .judge-end .ensures) ∙ ap (mapped toldOf) (c .in-Some .is) in
+    ∙ sym (ended m (c .in-Ok .read .lines) (ap planOf (c .as-slice-3 .ensures .value) ∙ lines .1 .0) (c .as-slice-4 .ensures .value))
+    ∙ sym (c .judge-end .ensures) ∙ ap (mapped toldOf) (c .in-Some .is) in
     record {
       value = e;
       words = in-words m s sheet P (Err (c .in-Some .refusal)) e;
@@ -96,23 +96,23 @@ returns g c =
     let r : Records = record { targets = vec-items (c .in-Ok .read .targets); acts = c .as-slice .result .now; lines = c .in-Ok .read .lines } in
     let is : r ≡ records-in sheet = ap (λ (xs : List ActLine). record { targets = vec-items (c .in-Ok .read .targets); acts = xs; lines = c .in-Ok .read .lines }) (c .as-slice .ensures .value) ∙ read .1 in
     let none = at-end m s sheet r (read .0) is (lines .0)
-      ∙ sym (ended m (c .in-Ok .read .lines) (ap planOf (c .as-slice-3 .ensures .value) ∙ lines .1 .0) (c .as-slice-4 .ensures .value))
-      ∙ sym (c .judge-end .ensures) ∙ ap (mapped toldOf) (c .in-rest .is) in
+    ∙ sym (ended m (c .in-Ok .read .lines) (ap planOf (c .as-slice-3 .ensures .value) ∙ lines .1 .0) (c .as-slice-4 .ensures .value))
+    ∙ sym (c .judge-end .ensures) ∙ ap (mapped toldOf) (c .in-rest .is) in
     let accepted : Accepted = record {
-        actions = c .in-Ok-judge-lines .actions;
-        targets = c .in-Ok .read .targets;
-        makespan = c .latest-end-makespan .result;
-        costs = c .costs-costs .result;
-        most = c .most-at-once-most .result;
-      } in
+      actions = c .in-Ok-judge-lines .actions;
+      targets = c .in-Ok .read .targets;
+      makespan = c .latest-end-makespan .result;
+      costs = c .costs-costs .result;
+      most = c .most-at-once-most .result;
+    } in
     let accepts : Accepts (records-in sheet) (acceptanceOf accepted) = record {
-        plan = lines .1 .0 ∙ ap (λ (x : Records). plan-of (x .acts)) is;
-        targets = ap (λ (x : Records). x .targets) is;
-        figures =
+      plan = lines .1 .0 ∙ ap (λ (x : Records). plan-of (x .acts)) is;
+      targets = ap (λ (x : Records). x .targets) is;
+      figures =
           figured (planOf (vec-items (c .in-Ok-judge-lines .actions))) (c .latest-end-makespan .result) (c .costs-costs .result) (c .most-at-once-most .result)
           (ap planOf (c .as-slice-2 .ensures .value)) (ap planOf (c .as-slice-5 .ensures .value)) (ap planOf (c .as-slice-6 .ensures .value))
           (c .latest-end-makespan .ensures) (c .costs-costs .ensures .value) (c .most-at-once-most .ensures .reached) (c .most-at-once-most .ensures .never-more);
-      } in
+    } in
     record {
       value = (none, accepts);
       words = in-words m s sheet P (Ok accepted) (none, accepts);
