@@ -9,10 +9,10 @@ ghost use Rattle.std.specs.Results.{isOk};
 ghost use Rattle.std.specs.Vec.{made};
 ghost use Rattle.terms.specs.Refusals.{Answers, Settles, first-of, from-on, refusalIn, toldOf};
 ghost use Rattle.terms.specs.View.{settingsOf};
-ghost use Rattle.plan.specs.Plan.{makespan as latest};
 ghost use Rattle.plan.specs.Rules.{plan-of, target-of};
 ghost use Rattle.plan.specs.View.{planOf};
 ghost use Rattle.sheet.specs.View.{records-in};
+ghost use Rattle.judge.specs.Figures.{Figures};
 ghost use Rattle.judge.specs.Judging.{end-tests, judging-refusal, tests-at};
 ghost use Rattle.judge.specs.Reasons.{judging-reasons};
 ghost use Rattle.judge.specs.Verdict.{Accepts, Keeps};
@@ -78,18 +78,34 @@ fn judge_end<G: Ground>(
     actions: &[Action],
     targets: &[Target],
     end: u16,
-    makespan: u32,
 ) -> Option<Refusal>
-    requires { ⌜ makespan ≡ latest (planOf (now actions)) ⌝ }
     ensures { λ r. ⌜ mapped toldOf r ≡ first-of (end-tests (G·Ground .meaning (now (ground .entry))) (planOf (now (actions .entry))) (target-of (now (targets .entry))) end) ⌝ }
 {
     if let Some(line) = first_left_behind(actions) {
         return Some(Refusal::at(Rule::LeftBehind, line, 0));
     }
-    if let Some(column) = first_missed(ground.columns(), actions, targets, makespan) {
+    if let Some(column) = first_missed(ground.columns(), actions, targets, latest_end(actions)) {
         return Some(Refusal::at(Rule::TargetMissed, end, column));
     }
     None
+}
+
+// An accepted plan, with its figures.
+fn accept(actions: Vec<Action>, targets: Vec<Target>) -> Accepted
+    requires few { ⌜ vec-len actions ≤ 1500 ⌝ }
+    ensures plan { λ r. ⌜ (acceptanceOf r .plan ≡ planOf (vec-items actions)) × (acceptanceOf r .targets ≡ vec-items targets) ⌝ }
+    ensures figures { λ r. ⌜ Figures (acceptanceOf r .plan) (acceptanceOf r .makespan) (acceptanceOf r .costs) (acceptanceOf r .most) ⌝ }
+{
+    let makespan = latest_end(actions.as_slice());
+    let costs = costs(actions.as_slice());
+    let most = most_at_once(actions.as_slice());
+    Accepted {
+        actions,
+        targets,
+        makespan,
+        costs,
+        most,
+    }
 }
 
 // Judges a sheet for a ground and settings: an accepted plan with its figures, or the first broken rule.
@@ -116,23 +132,8 @@ pub fn judge<G: Ground>(
         Ok(actions) => actions,
         Err(refusal) => return Err(refusal),
     };
-    let makespan = latest_end(actions.as_slice());
-    if let Some(refusal) = judge_end(
-        ground,
-        actions.as_slice(),
-        targets.as_slice(),
-        lines,
-        makespan,
-    ) {
-        return Err(refusal);
+    match judge_end(ground, actions.as_slice(), targets.as_slice(), lines) {
+        Some(refusal) => Err(refusal),
+        None => Ok(accept(actions, targets)),
     }
-    let costs = costs(actions.as_slice());
-    let most = most_at_once(actions.as_slice());
-    Ok(Accepted {
-        actions,
-        targets,
-        makespan,
-        costs,
-        most,
-    })
 }
