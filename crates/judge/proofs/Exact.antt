@@ -44,31 +44,45 @@ module _ (m : Meaning) (s : Site-settings) where
         let k = kept m s l (q .0) (q .1 .0) (q .1 .1 .0) (q .1 .1 .1 .0) in
         let j = q .1 .1 .1 .1 in
         let p = silent-parts (from-on (λ c. record { holds = Left-standing above (a .start) c; tells = told LeftStanding (a .line) c } ∷ []) 0 (m .columns)) _ (j .1) in
-        let z = silent-parts (from-on (λ i. record { holds = Collide (line above i) a; tells = told SpansCollide (a .line) (line above i .line) } ∷ []) 0 (length above)) _ (p .1 .1) in
-        (k .marks,
-        record {
-          on-scale = k .on-scale;
-          joined = k .joined;
-          lasts = k .lasts;
-          in-order = stable (not (falls above a)) (decides-order above a) (j .0);
-          none-left = λ c b. silent-at (λ c. record { holds = Left-standing above (a .start) c; tells = told LeftStanding (a .line) c } ∷ []) (m .columns) 0 (p .0) c (omega arith) (omega arith) .0;
-          heights = stable (heights-fit above a) (decides-heights above a) (p .1 .0);
-          apart = λ i b. silent-at (λ i. record { holds = Collide (line above i) a; tells = told SpansCollide (a .line) (line above i .line) } ∷ []) (length above) 0 (z .0) i (omega arith) (omega arith) .0;
-          follows = stable (from-somewhere above a) (decides-follows above a) (z .1 .0);
-          limit = elim (cases-lt (s .robots) (crowd above a)) [ inl g ↦ absurd (z .1 .1 .0 g) | inr g ↦ g ];
-        })
+        let z = silent-parts (from-on (λ i. record { holds = Collide (line above i) a; tells = told SpansCollide (a .line) (line above i .line) } ∷ []) 0 (length above)) _ (p .1 .1) in (
+          k .marks,
+          record {
+            on-scale = k .on-scale;
+            joined = k .joined;
+            lasts = k .lasts;
+            in-order = stable (not (falls above a)) (decides-order above a) (j .0);
+            none-left = λ c b. silent-at (λ c. record { holds = Left-standing above (a .start) c; tells = told LeftStanding (a .line) c } ∷ []) (m .columns) 0 (p .0) c (omega arith) (omega arith) .0;
+            heights = stable (heights-fit above a) (decides-heights above a) (p .1 .0);
+            apart = λ i b. silent-at (λ i. record { holds = Collide (line above i) a; tells = told SpansCollide (a .line) (line above i .line) } ∷ []) (length above) 0 (z .0) i (omega arith) (omega arith) .0;
+            follows = stable (from-somewhere above a) (decides-follows above a) (z .1 .0);
+            limit = elim (cases-lt (s .robots) (crowd above a)) [ inl g ↦ absurd (z .1 .1 .0 g) | inr g ↦ g ];
+          },
+        )
 
     pub meets-line : Marks l → Meets m s above a → Silent (line-reasons m s l ++ judge-reasons m s above a)
     unfolding judge-reasons
-    meets-line k w =
-        (λ n. n k, (λ n. n (w .on-scale), (λ n. n (w .joined), (λ n. n (w .lasts),
-        (λ n. n (w .in-order),
-        silent-both (from-on (λ c. record { holds = Left-standing above (a .start) c; tells = told LeftStanding (a .line) c } ∷ []) 0 (m .columns)) _
-        (silent-on (λ c. record { holds = Left-standing above (a .start) c; tells = told LeftStanding (a .line) c } ∷ []) (m .columns) 0 (λ c _ b. (w .none-left c (omega arith), tt)))
-        (λ n. n (w .heights),
-        silent-both (from-on (λ i. record { holds = Collide (line above i) a; tells = told SpansCollide (a .line) (line above i .line) } ∷ []) 0 (length above)) _
-        (silent-on (λ i. record { holds = Collide (line above i) a; tells = told SpansCollide (a .line) (line above i .line) } ∷ []) (length above) 0 (λ i _ b. (w .apart i (omega arith), tt)))
-        (λ n. n (w .follows), (λ g. let h = w .limit in omega arith, tt))))))))
+    meets-line k w = (
+      λ n. n k,
+      (
+        λ n. n (w .on-scale),
+        (
+          λ n. n (w .joined),
+          (
+            λ n. n (w .lasts),
+            (
+              λ n. n (w .in-order),
+              silent-both (from-on (λ c. record { holds = Left-standing above (a .start) c; tells = told LeftStanding (a .line) c } ∷ []) 0 (m .columns)) _
+                  (silent-on (λ c. record { holds = Left-standing above (a .start) c; tells = told LeftStanding (a .line) c } ∷ []) (m .columns) 0 (λ c _ b. (w .none-left c (omega arith), tt))) (
+                    λ n. n (w .heights),
+                    silent-both (from-on (λ i. record { holds = Collide (line above i) a; tells = told SpansCollide (a .line) (line above i .line) } ∷ []) 0 (length above)) _
+                        (silent-on (λ i. record { holds = Collide (line above i) a; tells = told SpansCollide (a .line) (line above i .line) } ∷ []) (length above) 0 (λ i _ b. (w .apart i (omega arith), tt)))
+                        (λ n. n (w .follows), (λ g. let h = w .limit in omega arith, tt)),
+                  ),
+            ),
+          ),
+        ),
+      ),
+    )
 
   -- the sheet's end
   module _ (plan : List Action) (targets : ℕ → ℕ) (lines : ℕ) where
@@ -81,11 +95,12 @@ module _ (m : Meaning) (s : Site-settings) where
     pub end-meets : Silent (end-reasons m plan targets lines) → Carried-on × Reached
     unfolding end-reasons
     end-meets q =
-        let p = silent-parts (from-on (λ i. record { holds = Left-behind plan (line plan i); tells = told LeftBehind (line plan i .line) 0 } ∷ []) 0 (length plan)) _ q in
-        (λ i l n. stable (carried plan (line plan i .end) (end-column (line plan i))) (decides-carried plan (line plan i .end) (end-column (line plan i)))
-        (λ out. silent-at (λ i. record { holds = Left-behind plan (line plan i); tells = told LeftBehind (line plan i .line) 0 } ∷ []) (length plan) 0 (p .0) i (omega arith) (omega arith) .0 (n, out)),
-        λ c l. stable (eqb (height-at plan (makespan plan) c) (targets c)) (decides-eqb _ _)
-        (silent-at (λ c. record { holds = height-at plan (makespan plan) c ≡ targets c → ⊥; tells = told TargetMissed lines c } ∷ []) (m .columns) 0 (p .1) c (omega arith) (omega arith) .0))
+        let p = silent-parts (from-on (λ i. record { holds = Left-behind plan (line plan i); tells = told LeftBehind (line plan i .line) 0 } ∷ []) 0 (length plan)) _ q in (
+          λ i l n. stable (carried plan (line plan i .end) (end-column (line plan i))) (decides-carried plan (line plan i .end) (end-column (line plan i)))
+              (λ out. silent-at (λ i. record { holds = Left-behind plan (line plan i); tells = told LeftBehind (line plan i .line) 0 } ∷ []) (length plan) 0 (p .0) i (omega arith) (omega arith) .0 (n, out)),
+          λ c l. stable (eqb (height-at plan (makespan plan) c) (targets c)) (decides-eqb _ _)
+              (silent-at (λ c. record { holds = height-at plan (makespan plan) c ≡ targets c → ⊥; tells = told TargetMissed lines c } ∷ []) (m .columns) 0 (p .1) c (omega arith) (omega arith) .0),
+        )
 
     pub meets-end : Carried-on → Reached → Silent (end-reasons m plan targets lines)
     unfolding end-reasons
@@ -112,17 +127,17 @@ module _ (m : Meaning) (s : Site-settings) where
     silent-rules q =
         let p = silent-parts (from-on (reasons-at m s acts) 0 (length acts)) _ q in
         let each : (k : ℕ) → k < length acts → Marks (written acts k) × Meets m s (take k plan) (action-of (written acts k)) =
-          λ k l. line-meets (take k plan) (written acts k) (silent-at (reasons-at m s acts) (length acts) 0 (p .0) k (omega arith) (omega arith)) in
+        λ k l. line-meets (take k plan) (written acts k) (silent-at (reasons-at m s acts) (length acts) 0 (p .0) k (omega arith) (omega arith)) in
         let e = end-meets plan (target-of (r .targets)) (r .lines) (p .1) in
         let j : Judged m s plan (target-of (r .targets)) = record {
-            one-column = λ k l. let h : k < length acts = omega (arith, size) in
-                subst (λ (x : Action). One-column (x .work) (x .from) (x .to)) (sym (action-at k h)) (formed (written acts k) (each k h .0) .0);
-            loaded = λ k l. let h : k < length acts = omega (arith, size) in
-                subst (λ (x : Action). Loaded (x .work) (x .carry)) (sym (action-at k h)) (formed (written acts k) (each k h .0) .1);
-            meets = λ k l. let h : k < length acts = omega (arith, size) in subst (λ (x : Action). Meets m s (take k plan) x) (sym (action-at k h)) (each k h .1);
-            carried-on = e .0;
-            reached = e .1;
-          } in
+          one-column = λ k l. let h : k < length acts = omega (arith, size) in
+              subst (λ (x : Action). One-column (x .work) (x .from) (x .to)) (sym (action-at k h)) (formed (written acts k) (each k h .0) .0);
+          loaded = λ k l. let h : k < length acts = omega (arith, size) in
+              subst (λ (x : Action). Loaded (x .work) (x .carry)) (sym (action-at k h)) (formed (written acts k) (each k h .0) .1);
+          meets = λ k l. let h : k < length acts = omega (arith, size) in subst (λ (x : Action). Meets m s (take k plan) x) (sym (action-at k h)) (each k h .1);
+          carried-on = e .0;
+          reached = e .1;
+        } in
         record { marks = λ i l. each i l .0; rules = rules-as-judged m s plan (target-of (r .targets)) timed .0 j }
 
     pub rules-silent : Sheet-rules m s r → Silent (sheet-reasons m s r)

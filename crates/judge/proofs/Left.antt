@@ -53,7 +53,7 @@ module _ (m : Meaning) (above : List Action) (t : ℕ) (so : Settled m above) wh
   recent c (i, l, n, b, e, out) =
       let out′ : Carried above (line above i .end) (end-column (line above i)) → ⊥ = λ w. out (subst (λ (x : ℕ). Carried above (line above i .end) x) e w) in
       let late : latest-start above ≤ line above i .end =
-        elim (cases-lt (line above i .end) (latest-start above)) [ inl g ↦ absurd (out′ (so .carried-on i l n g)) | inr g ↦ g ] in
+      elim (cases-lt (line above i .end) (latest-start above)) [ inl g ↦ absurd (out′ (so .carried-on i l n g)) | inr g ↦ g ] in
       (i, l, decides-between above (latest-start above) t (line above i) .1 (n, (late, (b, out′))), e)
 
   stood : (i : ℕ) → i < length above → left-between above (latest-start above) t (line above i) ≡ true → Left-standing above t (end-column (line above i))

@@ -43,17 +43,20 @@ module _ (p : Action → Bool) where
   pub lowest-no : (xs : List Action) (x : Action) (o : Option ℕ) → p x ≡ false → Lowest p xs o → Lowest p (xs ++ (x ∷ [])) o
   lowest-no xs x None f low = each-pushed (λ a. p a ≡ true → ⊥) xs x low (λ t. both-ways (p x) f t)
   lowest-no xs x (Some c) f low =
-      let (i, l, t, e) = low .0 in
-      (found c (xs ++ (x ∷ [])) (some-pushed (At c) xs x (i, l, (t, e))),
-      each-pushed (Above c) xs x (low .1) (λ t. absurd (both-ways (p x) f t)))
+      let (i, l, t, e) = low .0 in (
+        found c (xs ++ (x ∷ [])) (some-pushed (At c) xs x (i, l, (t, e))),
+        each-pushed (Above c) xs x (low .1) (λ t. absurd (both-ways (p x) f t)),
+      )
 
   pub lowest-yes : (xs : List Action) (x : Action) (o : Option ℕ) → p x ≡ true → Lowest p xs o → Lowest p (xs ++ (x ∷ [])) (Some (lower-of o (end-column x)))
-  lowest-yes xs x None y low =
-      (found (end-column x) (xs ++ (x ∷ [])) (last-pushed (At (end-column x)) xs x (y, refl)),
-      each-pushed (Above (end-column x)) xs x (λ i l t. absurd (low i l t)) (λ _. omega arith))
-  lowest-yes xs x (Some d) y low =
-      (found (min d (end-column x)) (xs ++ (x ∷ [])) (at (cases-lt d (end-column x))),
-      each-pushed (Above (min d (end-column x))) xs x (λ i l t. omega (arith, low .1 i l t)) (λ _. omega arith))
+  lowest-yes xs x None y low = (
+    found (end-column x) (xs ++ (x ∷ [])) (last-pushed (At (end-column x)) xs x (y, refl)),
+    each-pushed (Above (end-column x)) xs x (λ i l t. absurd (low i l t)) (λ _. omega arith),
+  )
+  lowest-yes xs x (Some d) y low = (
+    found (min d (end-column x)) (xs ++ (x ∷ [])) (at (cases-lt d (end-column x))),
+    each-pushed (Above (min d (end-column x))) xs x (λ i l t. omega (arith, low .1 i l t)) (λ _. omega arith),
+  )
     where
       at : (d < end-column x) ⊎ (end-column x ≤ d) → (i : ℕ) × (i < length (xs ++ (x ∷ []))) × At (min d (end-column x)) (line (xs ++ (x ∷ [])) i)
       at (inl b) = let (i, l, t, e) = low .0 in some-pushed (At (min d (end-column x))) xs x (i, l, (t, omega arith))

@@ -28,9 +28,10 @@ module _ (plan : List Action) where
       let here : countBy (runs (line plan i .start)) plan ≡ running = ap (λ (u : ℕ). countBy (runs u) plan) (sym et) ∙ sym e in
       (inr (t, sym e ∙ sym is), below-more (λ k. countBy (runs (line plan k .start)) plan ≤ new) i (λ k b. omega (arith, inv .1 k b)) (omega arith))
   most-more i most running new t e et (inr (g, is)) inv =
-      let here : countBy (runs (line plan i .start)) plan ≡ running = ap (λ (u : ℕ). countBy (runs u) plan) (sym et) ∙ sym e in
-      (subst (λ (x : ℕ). (x ≡ 0) ⊎ ((t : ℕ) × (countBy (runs t) plan ≡ x))) (sym is) (inv .0),
-      below-more (λ k. countBy (runs (line plan k .start)) plan ≤ new) i (λ k b. omega (arith, inv .1 k b)) (omega arith))
+      let here : countBy (runs (line plan i .start)) plan ≡ running = ap (λ (u : ℕ). countBy (runs u) plan) (sym et) ∙ sym e in (
+        subst (λ (x : ℕ). (x ≡ 0) ⊎ ((t : ℕ) × (countBy (runs t) plan ≡ x))) (sym is) (inv .0),
+        below-more (λ k. countBy (runs (line plan k .start)) plan ≤ new) i (λ k b. omega (arith, inv .1 k b)) (omega arith),
+      )
 
   pub most-never : (i most : ℕ) → length plan ≤ i → So-far i most → (t : ℕ) → countBy (runs t) plan ≤ most
   most-never i most l inv t = go (busiest t plan)

@@ -104,9 +104,10 @@ decides-goes-on a b = decides-and (ends (a .start) (a .from) b) _ (decides-ends 
 
 pub decides-follows : (above : List Action) (a : Action) → Decides (from-somewhere above a) (a .work ≢ Entry → Follows above (length above) a)
 decides-follows above a =
-    let all = decides-some-of (goes-on-from a) (λ b. Ends b (a .start) (a .from) × (carry-after b ≡ a .carry)) no-action (decides-goes-on a) above in
-    (λ e n. let w = all .0 (later n (or-cases (is-entry (a .work)) (some-of (goes-on-from a) above) e)) in (w .0, w .1, w .2 .0, w .2 .1),
-    λ f. go f (cases-bool (is-entry (a .work))) (λ w. all .1 (w .0, w .1, (w .2, w .3))))
+    let all = decides-some-of (goes-on-from a) (λ b. Ends b (a .start) (a .from) × (carry-after b ≡ a .carry)) no-action (decides-goes-on a) above in (
+      λ e n. let w = all .0 (later n (or-cases (is-entry (a .work)) (some-of (goes-on-from a) above) e)) in (w .0, w .1, w .2 .0, w .2 .1),
+      λ f. go f (cases-bool (is-entry (a .work))) (λ w. all .1 (w .0, w .1, (w .2, w .3))),
+    )
   where
     later : a .work ≢ Entry → (is-entry (a .work) ≡ true) ⊎ (some-of (goes-on-from a) above ≡ true) → some-of (goes-on-from a) above ≡ true
     later n (inl e) = absurd (true≢false (sym (decides-no-entry (a .work) .1 n) ∙ ap not e))
@@ -130,19 +131,25 @@ decides-falls above a = flip (falls above a) (decides-order above a)
 
 judge-decides : (m : Meaning) (s : Site-settings) (above : List Action) (a : Action) → Decide (judge-tests m s above a) (judge-reasons m s above a)
 unfolding judge-tests judge-reasons
-judge-decides m s above a =
-    (decides-falls above a, refl,
-    decide-append (from-on (λ c. (left-standing above (a .start) c, told LeftStanding (a .line) c) ∷ []) 0 (m .columns)) _
-    (from-on (λ c. record { holds = Left-standing above (a .start) c; tells = told LeftStanding (a .line) c } ∷ []) 0 (m .columns)) _
-    (decide-on (λ c. (left-standing above (a .start) c, told LeftStanding (a .line) c) ∷ []) (λ c. record { holds = Left-standing above (a .start) c; tells = told LeftStanding (a .line) c } ∷ [])
-    (λ c. (decides-left above (a .start) c, refl, tt)) 0 (m .columns))
-    (decides-not (heights-fit above a) (decides-heights above a), refl,
-    decide-append (from-on (λ i. (collide (line above i) a, told SpansCollide (a .line) (line above i .line)) ∷ []) 0 (length above)) _
-    (from-on (λ i. record { holds = Collide (line above i) a; tells = told SpansCollide (a .line) (line above i .line) } ∷ []) 0 (length above)) _
-    (decide-on (λ i. (collide (line above i) a, told SpansCollide (a .line) (line above i .line)) ∷ []) (λ i. record { holds = Collide (line above i) a; tells = told SpansCollide (a .line) (line above i .line) } ∷ [])
-    (λ i. (decides-collide (line above i) a, refl, tt)) 0 (length above))
-    (decides-not (from-somewhere above a) (decides-follows above a), refl,
-    (decides-ltb (s .robots) (crowd above a), refl, tt))))
+judge-decides m s above a = (
+  decides-falls above a,
+  refl,
+  decide-append (from-on (λ c. (left-standing above (a .start) c, told LeftStanding (a .line) c) ∷ []) 0 (m .columns)) _
+      (from-on (λ c. record { holds = Left-standing above (a .start) c; tells = told LeftStanding (a .line) c } ∷ []) 0 (m .columns)) _
+      (decide-on (λ c. (left-standing above (a .start) c, told LeftStanding (a .line) c) ∷ []) (λ c. record { holds = Left-standing above (a .start) c; tells = told LeftStanding (a .line) c } ∷ [])
+      (λ c. (decides-left above (a .start) c, refl, tt)) 0 (m .columns)) (
+        decides-not (heights-fit above a) (decides-heights above a),
+        refl,
+        decide-append (from-on (λ i. (collide (line above i) a, told SpansCollide (a .line) (line above i .line)) ∷ []) 0 (length above)) _
+            (from-on (λ i. record { holds = Collide (line above i) a; tells = told SpansCollide (a .line) (line above i .line) } ∷ []) 0 (length above)) _
+            (decide-on (λ i. (collide (line above i) a, told SpansCollide (a .line) (line above i .line)) ∷ []) (λ i. record { holds = Collide (line above i) a; tells = told SpansCollide (a .line) (line above i .line) } ∷ [])
+            (λ i. (decides-collide (line above i) a, refl, tt)) 0 (length above)) (
+              decides-not (from-somewhere above a) (decides-follows above a),
+              refl,
+              (decides-ltb (s .robots) (crowd above a), refl, tt),
+            ),
+      ),
+)
 
 end-decides : (m : Meaning) (plan : List Action) (targets : ℕ → ℕ) (lines : ℕ) → Decide (end-tests m plan targets lines) (end-reasons m plan targets lines)
 unfolding end-tests end-reasons

@@ -22,9 +22,10 @@ use Rattle.judge.specs.Judging.{crowd, latest-start, overlap}
 
 -- a time in both spans is at the later start, if anywhere
 pub decides-overlap : (a b : Action) → Decides (overlap a b) ((t : ℕ) × Holds (a .start) (a .end) t × Holds (b .start) (b .end) t)
-decides-overlap a b =
-    (λ e. let h = ltb-true _ _ e in (max (a .start) (b .start), (omega arith, omega arith), (omega arith, omega arith)),
-    λ w. lt-ltb _ _ (omega arith))
+decides-overlap a b = (
+  λ e. let h = ltb-true _ _ e in (max (a .start) (b .start), (omega arith, omega arith), (omega arith, omega arith)),
+  λ w. lt-ltb _ _ (omega arith),
+)
 
 -- no action before, or the last of them
 pub latest-none : (above : List Held) → length above ≡ 0 → 0 ≡ latest-start (planOf above)

@@ -57,7 +57,12 @@ fn is_missed(actions: &[Action], targets: &[Target], time: u32, column: u16) -> 
 }
 
 // The lowest column whose height at a time is not its target.
-pub(crate) fn first_missed(columns: u16, actions: &[Action], targets: &[Target], time: u32) -> Option<u16>
+pub(crate) fn first_missed(
+    columns: u16,
+    actions: &[Action],
+    targets: &[Target],
+    time: u32,
+) -> Option<u16>
     ensures { λ r. ⌜ ((lines : ℕ) → first-of (from-on (λ c. (missed (planOf (now (actions .entry))) (target-of (now (targets .entry))) time c, told TargetMissed lines c) ∷ []) 0 columns) ≡ mapped (told TargetMissed lines) r) ⌝ }
 {
     for column in 0..columns {

@@ -16,8 +16,8 @@ use crate::above::height_at;
 use crate::above::is_carried_on;
 use crate::above::running_at;
 use ground::Ground;
-use plan::action_of;
 use plan::Action;
+use plan::action_of;
 use sheet::ActLine;
 use terms::Refusal;
 use terms::Rule;
@@ -96,7 +96,13 @@ fn is_level(above: &[Action], action: &Action) -> bool
 {
     let from = height_at(above, action.span.start(), action.from.column);
     let to = height_at(above, action.span.start(), action.to.column);
-    is_fitting(action.work, action.from.height as usize, action.to.height as usize, from, to)
+    is_fitting(
+        action.work,
+        action.from.height as usize,
+        action.to.height as usize,
+        from,
+        to,
+    )
 }
 
 // Whether two actions share a timestep and a column.
@@ -180,7 +186,12 @@ fn broken(settings: &Settings, above: &[Action], action: &Action) -> Option<Refu
 }
 
 // The action that a line stands for below the actions above it, or the first rule that it breaks.
-pub(crate) fn judge_line<G: Ground>(ground: &G, settings: &Settings, above: &[Action], line: &ActLine) -> Result<Action, Refusal>
+pub(crate) fn judge_line<G: Ground>(
+    ground: &G,
+    settings: &Settings,
+    above: &[Action],
+    line: &ActLine,
+) -> Result<Action, Refusal>
     ensures { λ r. ⌜ (Settled (G·Ground .meaning (now (ground .entry))) (planOf (now (above .entry))) → Answers (or-else (first-of (line-tests (G·Ground .meaning (now (ground .entry))) (settingsOf (now (settings .entry))) (now (line .entry)))) (first-of (judge-tests (G·Ground .meaning (now (ground .entry))) (settingsOf (now (settings .entry))) (planOf (now (above .entry))) (action-of (now (line .entry)))))) (λ a. actionOf a ≡ action-of (now (line .entry))) r) ⌝ }
 {
     let action = match action_of(ground, settings, line) {

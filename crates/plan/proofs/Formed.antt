@@ -35,7 +35,8 @@ loaded P e x b c s = s .1 .1
 loaded D e x b c s = s .1 .1
 
 pub formed : (l : ActLine) → Marks l → One-column (action-of l .work) (action-of l .from) (action-of l .to) × Loaded (action-of l .work) (action-of l .carry)
-formed l k =
-    (one-column (l .letter) (marked (l .from .column)) (marked (l .to .column)) (eqb (numbered (l .from .height)) (numbered (l .to .height)))
-    (numbered (l .from .column)) (numbered (l .to .column)) (k .one-side),
-    loaded (l .letter) (marked (l .from .column)) (marked (l .to .column)) (eqb (numbered (l .from .column)) (numbered (l .to .column)) && eqb (numbered (l .from .height)) (numbered (l .to .height))) (l .carry) (k .suited))
+formed l k = (
+  one-column (l .letter) (marked (l .from .column)) (marked (l .to .column)) (eqb (numbered (l .from .height)) (numbered (l .to .height)))
+      (numbered (l .from .column)) (numbered (l .to .column)) (k .one-side),
+  loaded (l .letter) (marked (l .from .column)) (marked (l .to .column)) (eqb (numbered (l .from .column)) (numbered (l .to .column)) && eqb (numbered (l .from .height)) (numbered (l .to .height))) (l .carry) (k .suited),
+)

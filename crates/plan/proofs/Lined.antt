@@ -83,11 +83,19 @@ module _ (m : Meaning) (s : Site-settings) (l : ActLine) where
   a = action-of l
 
   pub line-decides : Decide (line-tests m s l) (line-reasons m s l)
-  line-decides =
-      (decides-not (marks-fit l) (decides-marks l), refl,
-      (decides-not (on-scale m s a) (decides-scale m s a), refl,
-      (decides-not (joins m (a .work) (a .from) (a .to)) (decides-joins m (a .work) (a .from) (a .to)), refl,
-      (decides-not (eqb (l .end) (due s a)) (decides-eqb (l .end) (due s a)), refl, tt))))
+  line-decides = (
+    decides-not (marks-fit l) (decides-marks l),
+    refl,
+    (
+      decides-not (on-scale m s a) (decides-scale m s a),
+      refl,
+      (
+        decides-not (joins m (a .work) (a .from) (a .to)) (decides-joins m (a .work) (a .from) (a .to)),
+        refl,
+        (decides-not (eqb (l .end) (due s a)) (decides-eqb (l .end) (due s a)), refl, tt),
+      ),
+    ),
+  )
 
   pub line-settles : Settles (line-reasons m s l) (first-of (line-tests m s l))
   line-settles = first-settles (line-tests m s l) (line-reasons m s l) line-decides

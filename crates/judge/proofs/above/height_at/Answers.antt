@@ -19,15 +19,15 @@ loop-action-again c =
     let l = c .loop-action-test .taken in
     let is = c .action-item .is in
     let d : (c .if-delivers .delivered ≡ countBy p (planOf (take (i + 1) xs))) × (c .if-delivers .delivered ≤ i + 1) =
-      elim (c .if-delivers .came) [
-        | then-delivers w ↦ let h = count-yes actionOf p xs i x l is (sym (w .if-delivers .ensures tt)) in (omega (arith, w .delivered-is), omega (arith, w .delivered-is))
-        | else-delivers w ↦ let h = count-no actionOf p xs i x l is (sym (w .if-delivers .ensures tt)) in (omega (arith, w .delivered-is), omega (arith, w .delivered-is))
-      ] in
+    elim (c .if-delivers .came) [
+      | then-delivers w ↦ let h = count-yes actionOf p xs i x l is (sym (w .if-delivers .ensures tt)) in (omega (arith, w .delivered-is), omega (arith, w .delivered-is))
+      | else-delivers w ↦ let h = count-no actionOf p xs i x l is (sym (w .if-delivers .ensures tt)) in (omega (arith, w .delivered-is), omega (arith, w .delivered-is))
+    ] in
     let k : (c .if-picks .picked ≡ countBy q (planOf (take (i + 1) xs))) × (c .if-picks .picked ≤ i + 1) =
-      elim (c .if-picks .came) [
-        | then-picks w ↦ let h = count-yes actionOf q xs i x l is (sym (w .if-picks .ensures tt)) in (omega (arith, w .picked-is), omega (arith, w .picked-is))
-        | else-picks w ↦ let h = count-no actionOf q xs i x l is (sym (w .if-picks .ensures tt)) in (omega (arith, w .picked-is), omega (arith, w .picked-is))
-      ] in
+    elim (c .if-picks .came) [
+      | then-picks w ↦ let h = count-yes actionOf q xs i x l is (sym (w .if-picks .ensures tt)) in (omega (arith, w .picked-is), omega (arith, w .picked-is))
+      | else-picks w ↦ let h = count-no actionOf q xs i x l is (sym (w .if-picks .ensures tt)) in (omega (arith, w .picked-is), omega (arith, w .picked-is))
+    ] in
     (d .0, k .0, d .1, k .1)
 
 pub returns : need.returns

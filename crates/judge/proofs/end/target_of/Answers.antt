@@ -16,7 +16,7 @@ returns-then-target-column c =
     let i = c .loop-target .target-index in
     let d : Target = record { column = 0; height = 0 } in
     let step : target-of (drop i ts) (c .args .column) ≡ cond (eqb (getD ts i d .column) (c .args .column)) (getD ts i d .height) (target-of (drop (i + 1) ts) (c .args .column)) =
-      at-drop-more (λ (xs : List Target). target-of xs (c .args .column)) ts i d (c .loop-target-test .taken) in
+    at-drop-more (λ (xs : List Target). target-of xs (c .args .column)) ts i d (c .loop-target-test .taken) in
     sym (sym (c .loop-target .inv) ∙ step ∙ cond-true _ _ _ (eq-eqb _ _ (c .if-target-column .taken)))
 
 pub loop-target-again : need.loop-target-again
@@ -25,7 +25,7 @@ loop-target-again c =
     let i = c .loop-target .target-index in
     let d : Target = record { column = 0; height = 0 } in
     let step : target-of (drop i ts) (c .args .column) ≡ cond (eqb (getD ts i d .column) (c .args .column)) (getD ts i d .height) (target-of (drop (i + 1) ts) (c .args .column)) =
-      at-drop-more (λ (xs : List Target). target-of xs (c .args .column)) ts i d (c .loop-target-test .taken) in
+    at-drop-more (λ (xs : List Target). target-of xs (c .args .column)) ts i d (c .loop-target-test .taken) in
     sym (step ∙ cond-false _ _ _ (ne-eqb _ _ (c .if-target-column .left))) ∙ c .loop-target .inv
 
 pub returns : need.returns

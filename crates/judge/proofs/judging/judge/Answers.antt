@@ -14,15 +14,13 @@ use Rattle.ground.specs.Meaning.{Meaning}
 use Rattle.sheet.specs.View.{Records, records-in, sheetOf}
 use Rattle.sheet.specs.declared.record.ActLine.{ActLine}
 use Rattle.sheet.specs.declared.target.Target.{Target}
-use Rattle.plan.specs.declared.action.Action.{Action}
-use Rattle.plan.specs.Plan.{Action as Step, makespan}
+use Rattle.plan.specs.Plan.{Action as Step}
 use Rattle.plan.specs.Rules.{plan-of, target-of}
 use Rattle.plan.specs.View.{planOf}
 use Rattle.judge.specs.Judging.{end-tests, judging-refusal}
 use Rattle.judge.specs.Verdict.{Accepts}
 use Rattle.judge.specs.View.{acceptanceOf}
 use Rattle.judge.specs.declared.accepted.Accepted.{Accepted}
-use Rattle.judge.proofs.Figured.{figured}
 use Rattle.judge.proofs.Timely.{timed}
 use Rattle.judge.proofs.Verdict.{at-end, at-lines, at-reading, decides-keeps, in-words}
 use Rattle.judge.proofs.judging.judge.Needs as need
@@ -60,9 +58,6 @@ returns-in-Err-judge-lines g c =
       rules = decides-keeps m s sheet (timed (c .args .settings .now)) P (Err (c .in-Err-judge-lines .refusal)) e;
     }
 
-pub judge-end-requires : need.judge-end-requires
-judge-end-requires g c κs = c .latest-end-makespan .ensures ∙ ap (λ (xs : List Action). makespan (planOf xs)) (c .as-slice-2 .ensures .value ∙ sym (c .as-slice-3 .ensures .value))
-
 pub returns-in-Some : need.returns-in-Some
 returns-in-Some g c =
     let m = g .G·Ground .meaning (c .args .ground .now) in
@@ -72,21 +67,22 @@ returns-in-Some g c =
     let read = c .in-Ok .ensures tt .value in
     let lines = c .in-Ok-judge-lines .ensures tt in
     let r : Records = record { targets = vec-items (c .in-Ok .read .targets); acts = c .as-slice .result .now; lines = c .in-Ok .read .lines } in
-    let is : r ≡ records-in sheet = ap (λ (xs : List ActLine). record { targets = vec-items (c .in-Ok .read .targets); acts = xs; lines = c .in-Ok .read .lines }) (c .as-slice .ensures .value) ∙ read .1 in
-    let e = at-end m s sheet r (read .0) is (lines .0)
-      ∙ sym (ended m (c .in-Ok .read .lines) (ap planOf (c .as-slice-3 .ensures .value) ∙ lines .1 .0) (c .as-slice-4 .ensures .value))
-      ∙ sym (c .judge-end .ensures) ∙ ap (mapped toldOf) (c .in-Some .is) in
+    let is : r ≡ records-in sheet =
+      ap (λ (xs : List ActLine). record { targets = vec-items (c .in-Ok .read .targets); acts = xs; lines = c .in-Ok .read .lines }) (c .as-slice .ensures .value) ∙ read .1 in
+    let end = at-end m s sheet r (read .0) is (lines .0)
+      ∙ sym (ended m (c .in-Ok .read .lines) (ap planOf (c .as-slice-2 .ensures .value) ∙ lines .1 .0) (c .as-slice-3 .ensures .value)) ∙ sym (c .judge-end .ensures) in
+    let e = end ∙ ap (mapped toldOf) (c .in-Some .is) in
     record {
       value = e;
       words = in-words m s sheet P (Err (c .in-Some .refusal)) e;
       rules = decides-keeps m s sheet (timed (c .args .settings .now)) P (Err (c .in-Some .refusal)) e;
     }
 
-pub costs-costs-requires : need.costs-costs-requires
-costs-costs-requires g c κs = record { few = omega (arith, c .as-slice-5 .ensures .len, c .in-Ok-judge-lines .ensures tt .1 .1) }
+pub accept-requires : need.accept-requires
+accept-requires g c κs = record { few = c .in-Ok-judge-lines .ensures tt .1 .1 }
 
-pub returns : need.returns
-returns g c =
+pub returns-in-None : need.returns-in-None
+returns-in-None g c =
     let m = g .G·Ground .meaning (c .args .ground .now) in
     let s = settingsOf (c .args .settings .now) in
     let sheet = c .args .sheet .now in
@@ -94,27 +90,18 @@ returns g c =
     let read = c .in-Ok .ensures tt .value in
     let lines = c .in-Ok-judge-lines .ensures tt in
     let r : Records = record { targets = vec-items (c .in-Ok .read .targets); acts = c .as-slice .result .now; lines = c .in-Ok .read .lines } in
-    let is : r ≡ records-in sheet = ap (λ (xs : List ActLine). record { targets = vec-items (c .in-Ok .read .targets); acts = xs; lines = c .in-Ok .read .lines }) (c .as-slice .ensures .value) ∙ read .1 in
-    let none = at-end m s sheet r (read .0) is (lines .0)
-      ∙ sym (ended m (c .in-Ok .read .lines) (ap planOf (c .as-slice-3 .ensures .value) ∙ lines .1 .0) (c .as-slice-4 .ensures .value))
-      ∙ sym (c .judge-end .ensures) ∙ ap (mapped toldOf) (c .in-rest .is) in
-    let accepted : Accepted = record {
-        actions = c .in-Ok-judge-lines .actions;
-        targets = c .in-Ok .read .targets;
-        makespan = c .latest-end-makespan .result;
-        costs = c .costs-costs .result;
-        most = c .most-at-once-most .result;
-      } in
-    let accepts : Accepts (records-in sheet) (acceptanceOf accepted) = record {
-        plan = lines .1 .0 ∙ ap (λ (x : Records). plan-of (x .acts)) is;
-        targets = ap (λ (x : Records). x .targets) is;
-        figures =
-          figured (planOf (vec-items (c .in-Ok-judge-lines .actions))) (c .latest-end-makespan .result) (c .costs-costs .result) (c .most-at-once-most .result)
-          (ap planOf (c .as-slice-2 .ensures .value)) (ap planOf (c .as-slice-5 .ensures .value)) (ap planOf (c .as-slice-6 .ensures .value))
-          (c .latest-end-makespan .ensures) (c .costs-costs .ensures .value) (c .most-at-once-most .ensures .reached) (c .most-at-once-most .ensures .never-more);
+    let is : r ≡ records-in sheet =
+      ap (λ (xs : List ActLine). record { targets = vec-items (c .in-Ok .read .targets); acts = xs; lines = c .in-Ok .read .lines }) (c .as-slice .ensures .value) ∙ read .1 in
+    let end = at-end m s sheet r (read .0) is (lines .0)
+      ∙ sym (ended m (c .in-Ok .read .lines) (ap planOf (c .as-slice-2 .ensures .value) ∙ lines .1 .0) (c .as-slice-3 .ensures .value)) ∙ sym (c .judge-end .ensures) in
+    let none = end ∙ ap (mapped toldOf) (c .in-None .is) in
+    let accepts : Accepts (records-in sheet) (acceptanceOf (c .accept .result)) = record {
+        plan = c .accept .ensures .plan .0 ∙ lines .1 .0 ∙ ap (λ (x : Records). plan-of (x .acts)) is;
+        targets = c .accept .ensures .plan .1 ∙ ap (λ (x : Records). x .targets) is;
+        figures = c .accept .ensures .figures;
       } in
     record {
       value = (none, accepts);
-      words = in-words m s sheet P (Ok accepted) (none, accepts);
-      rules = decides-keeps m s sheet (timed (c .args .settings .now)) P (Ok accepted) (none, accepts);
+      words = in-words m s sheet P (Ok (c .accept .result)) (none, accepts);
+      rules = decides-keeps m s sheet (timed (c .args .settings .now)) P (Ok (c .accept .result)) (none, accepts);
     }

@@ -22,9 +22,9 @@ returns-in-Some-first-missed g c =
     let m = g .G·Ground .meaning (c .args .ground .now) in
     let plan = planOf (c .args .actions .now) in
     let targets = target-of (c .args .targets .now) in
-    let run = λ (n : ℕ). first-of (from-on (λ (x : ℕ). (missed plan targets (c .args .makespan) x, told TargetMissed (c .args .end) x) ∷ []) 0 n) in
+    let run = λ (n : ℕ). first-of (from-on (λ (x : ℕ). (missed plan targets (c .latest-end .result) x, told TargetMissed (c .args .end) x) ∷ []) 0 n) in
     ap Some (c .at-in-Some-first-missed .ensures)
-    ∙ sym (past-behind m plan targets (c .args .end) (c .first-left-behind .result) (c .args .makespan) (c .first-left-behind .ensures) (c .in-rest .is) (c .pre)
+    ∙ sym (past-behind m plan targets (c .args .end) (c .first-left-behind .result) (c .latest-end .result) (c .first-left-behind .ensures) (c .in-rest .is) (c .latest-end .ensures)
     ∙ ap run (sym (c .columns .ensures)) ∙ c .first-missed .ensures (c .args .end) ∙ ap (mapped (told TargetMissed (c .args .end))) (c .in-Some-first-missed .is))
 
 pub returns : need.returns
@@ -32,6 +32,6 @@ returns g c =
     let m = g .G·Ground .meaning (c .args .ground .now) in
     let plan = planOf (c .args .actions .now) in
     let targets = target-of (c .args .targets .now) in
-    let run = λ (n : ℕ). first-of (from-on (λ (x : ℕ). (missed plan targets (c .args .makespan) x, told TargetMissed (c .args .end) x) ∷ []) 0 n) in
-    sym (past-behind m plan targets (c .args .end) (c .first-left-behind .result) (c .args .makespan) (c .first-left-behind .ensures) (c .in-rest .is) (c .pre)
+    let run = λ (n : ℕ). first-of (from-on (λ (x : ℕ). (missed plan targets (c .latest-end .result) x, told TargetMissed (c .args .end) x) ∷ []) 0 n) in
+    sym (past-behind m plan targets (c .args .end) (c .first-left-behind .result) (c .latest-end .result) (c .first-left-behind .ensures) (c .in-rest .is) (c .latest-end .ensures)
     ∙ ap run (sym (c .columns .ensures)) ∙ c .first-missed .ensures (c .args .end) ∙ ap (mapped (told TargetMissed (c .args .end))) (c .in-rest-first-missed .is))

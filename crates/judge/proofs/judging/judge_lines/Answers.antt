@@ -21,9 +21,13 @@ use Rattle.judge.proofs.judging.judge_lines.Needs as need
 pub loop-line-holds : need.loop-line-holds
 loop-line-holds g c =
     let m = g .G·Ground .meaning (c .args .ground .now) in
-    let none : planOf (vec-items (c .args .actions)) ≡ planOf [] = ap planOf (nil-from-length (vec-items (c .args .actions)) (sym (c .args .actions .ok .0) ∙ c .pre .none)) in
-    (none, c .pre .none, c .pre .room, subst (Settled m) (sym none) (settled-none m),
-    ap (λ (k : ℕ). first-of (from-on (tests-at m (settingsOf (c .args .settings .now)) (c .args .acts .now)) 0 k)) (sub-zero (length (c .args .acts .now))))
+    let none : planOf (vec-items (c .args .actions)) ≡ planOf [] = ap planOf (nil-from-length (vec-items (c .args .actions)) (sym (c .args .actions .ok .0) ∙ c .pre .none)) in (
+      none,
+      c .pre .none,
+      c .pre .room,
+      subst (Settled m) (sym none) (settled-none m),
+      ap (λ (k : ℕ). first-of (from-on (tests-at m (settingsOf (c .args .settings .now)) (c .args .acts .now)) 0 k)) (sub-zero (length (c .args .acts .now))),
+    )
 
 pub push-reserved-requires : need.push-reserved-requires
 push-reserved-requires g c κs = let inv = c .loop-line .inv in omega (arith, c .pre .few)
@@ -55,12 +59,13 @@ loop-line-again g c =
     let told = c .in-Ok .ensures tt (subst (Settled m) (sym same) (inv .3)) in
     let none = sym (line-refused m s acts i above so-far) ∙ told .0 in
     let more : planOf (vec-items (c .push-reserved .last .self)) ≡ above ++ (a ∷ []) =
-      ap planOf (c .push-reserved .ensures .items) ∙ map-push actionOf (vec-items (c .loop-line .actions)) (c .in-Ok .action) ∙ ap (λ (xs : List Action). xs ++ (a ∷ [])) (sym same) in
-    (more ∙ plan-more m s acts i above so-far a (c .loop-line-test .taken) (told .1),
-    c .push-reserved .ensures .len ∙ ap (λ (n : ℕ). n + 1) (inv .1),
-    omega (arith, c .push-reserved .ensures .capacity, inv .2),
-    subst (Settled m) (sym more) (settled-on m s acts i above so-far a (timed (c .args .settings .now)) (told .1) none (subst (Settled m) (sym same) (inv .3))),
-    goes-on (tests-at m s acts) i (length acts) (c .loop-line-test .taken) none ∙ inv .4)
+    ap planOf (c .push-reserved .ensures .items) ∙ map-push actionOf (vec-items (c .loop-line .actions)) (c .in-Ok .action) ∙ ap (λ (xs : List Action). xs ++ (a ∷ [])) (sym same) in (
+      more ∙ plan-more m s acts i above so-far a (c .loop-line-test .taken) (told .1),
+      c .push-reserved .ensures .len ∙ ap (λ (n : ℕ). n + 1) (inv .1),
+      omega (arith, c .push-reserved .ensures .capacity, inv .2),
+      subst (Settled m) (sym more) (settled-on m s acts i above so-far a (timed (c .args .settings .now)) (told .1) none (subst (Settled m) (sym same) (inv .3))),
+      goes-on (tests-at m s acts) i (length acts) (c .loop-line-test .taken) none ∙ inv .4,
+    )
 
 pub returns : need.returns
 returns g c =

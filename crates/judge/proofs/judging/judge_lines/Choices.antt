@@ -18,4 +18,4 @@ Inv-loop-line g l =
     (1500 ≤ vec-cap (l .actions)) ×
     Settled (g .G·Ground .meaning (l .ground)) (planOf (vec-items (l .actions))) ×
     (first-of (from-on (tests-at (g .G·Ground .meaning (l .ground)) (settingsOf (l .settings)) (l .acts)) (l .line-index) (length (l .acts) - l .line-index))
-      ≡ first-of (from-on (tests-at (g .G·Ground .meaning (l .ground)) (settingsOf (l .settings)) (l .acts)) 0 (length (l .acts))))
+    ≡ first-of (from-on (tests-at (g .G·Ground .meaning (l .ground)) (settingsOf (l .settings)) (l .acts)) 0 (length (l .acts))))
