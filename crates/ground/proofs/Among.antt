@@ -1,6 +1,6 @@
 -- A column is linked with just those that are told one by one. Assumes nothing.
-use mathlib.Core.Path.{_≡_, refl, sym, ap, subst, _∙_}
-use mathlib.Core.Bool.{Bool, true, false, cond}
+use mathlib.Core.Path.{_≡_, sym, ap, subst, _∙_}
+use mathlib.Core.Bool.{Bool, true, false}
 use mathlib.Core.List.{List, [], _∷_}
 use mathlib.Core.Logic.{⊎-elim}
 use Prim.Native.Nat.{ℕ, zero, suc, _+_, _≤_, _<_}
@@ -10,7 +10,7 @@ use Rattle.std.specs.Iters.{counting}
 use Rattle.std.specs.shelf.Lists.{All, kept-by}
 use Rattle.std.specs.shelf.Maps.{nth}
 use Rattle.std.specs.declared.option.Option.{Option}
-use Rattle.std.specs.declared.option.Option.the-variants.{Some, None}
+use Rattle.std.specs.declared.option.Option.the-variants.{Some}
 use Rattle.std.proofs.shelf.Elements.{kept-by-passes}
 use Rattle.std.proofs.shelf.Maps.{nth-past}
 use Rattle.std.proofs.shelf.Tests.{cases-bool, cases-eq, cases-lt, cond-true, cond-false}
@@ -35,8 +35,10 @@ place p (suc n) a d low high h =
     (cases-bool (p a)))
     (cases-eq a d)
 
-pub told-linked : (m : Meaning) (c d k : ℕ) → nth (neighbours m c) k ≡ Some d → m .linked c d ≡ true
-told-linked m c d k h = all-nth (λ x. m .linked c x ≡ true) (neighbours m c) k d (kept-by-passes (m .linked c) (counting 0 (m .columns))) h
+pub told-linked : (m : Meaning) (c d k : ℕ) (o : Option ℕ) (e : ℕ) → o ≡ nth (neighbours m c) k → o ≡ Some e → e ≡ d → m .linked c d ≡ true
+told-linked m c d k o e is some same =
+    let h : nth (neighbours m c) k ≡ Some d = sym is ∙ some ∙ ap (λ x. Some x) same in
+    all-nth (λ x. m .linked c x ≡ true) (neighbours m c) k d (kept-by-passes (m .linked c) (counting 0 (m .columns))) h
 
 pub untold-apart : (m : Meaning) (c d most : ℕ) → Lawful m → length (neighbours m c) ≤ most → ((k : ℕ) → k < most → nth (neighbours m c) k ≡ Some d → ⊥) → m .linked c d ≡ false
 untold-apart m c d most law few none =

@@ -3,20 +3,20 @@ use mathlib.Core.Path.{_≡_, refl, sym, ap, _∙_}
 use mathlib.Core.Bool.{Bool, true, false, cond, _&&_, _||_}
 use mathlib.Core.List.{List, [], _∷_}
 use mathlib.Core.Logic.{_⊎_, inl, inr, ⊎-elim}
-use Prim.Native.Nat.{ℕ, zero, suc, _+_, _-_, _*_, _/_, _%_, _≤_, _<_}
+use Prim.Native.Nat.{ℕ, suc, _+_, _-_, _*_, _/_, _%_, _≤_, _<_}
 use native.Mathlib.Nat.{add-mul, div-add-mod', mod-lt, mul-comm, one-mul}
 use native.Mathlib.Omega.{arith}
 use lib.Dec.{eqb, leb, ltb}
 use lib.ListN.{length}
 use Rattle.std.specs.Orderings.{Decides}
-use Rattle.std.specs.declared.option.Option.{Option}
-use Rattle.std.specs.declared.option.Option.the-variants.{Some, None}
+use Rattle.std.specs.declared.option.Option.the-variants.{None}
 use Rattle.std.proofs.shelf.Bits.{div-below, div-mul-add, mod-mul-add, mul-add-lt}
 use Rattle.std.proofs.shelf.Tests.{and-left, and-parts, le-leb, leb-true, ltb-true}
 use Rattle.std.proofs.shelf.Ways.{decides-and, decides-at, decides-eqb, decides-like, decides-ltb, decides-or, same-from-decides}
 use Rattle.ground.specs.Meaning.{neighbours}
 use Rattle.ground.specs.Members.{has, onto, somes}
-use Rattle.ground.specs.Squared.{beside, near, sides-of, squared, where-so}
+use Rattle.ground.specs.Sides.{sides-of, where-so}
+use Rattle.ground.specs.Squared.{near, squared}
 use Rattle.ground.proofs.Rises.{Rising, kept-rising, rising-lower}
 
 -- one more in front where a test holds
@@ -179,13 +179,6 @@ module _ (x y c d : ℕ) (low : 1 ≤ y) (in′ : c < x * y) where
       (λ t. to-side (t .1 .0) (t .1 .1))
       (λ s. let t = from-side s in (in′, (t .0, t .1)))
       (decides-and (ltb c (x * y)) _ (decides-ltb c (x * y)) (decides-and (ltb d (x * y)) _ (decides-ltb d (x * y)) near-tells))
-
-pub four-sides : (x y c : ℕ) → length (sides-of x y c) ≡ 4
-four-sides x y c = go (ltb c (x * y))
-  where
-    go : (b : Bool) → length (cond b (where-so (leb y c) (c - y) ∷ where-so (ltb 0 (c % y)) (c - 1) ∷ where-so (ltb (c % y + 1) y) (c + 1) ∷ where-so (ltb (c + y) (x * y)) (c + y) ∷ []) (None ∷ None ∷ None ∷ None ∷ [])) ≡ 4
-    go true = refl
-    go false = refl
 
 module _ (x y : ℕ) (low : 1 ≤ y) where
   within : (c d : ℕ) → squared x y .linked c d ≡ true → d < x * y

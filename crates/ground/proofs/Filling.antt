@@ -1,11 +1,11 @@
 -- Rows that are filled one byte and one link at a time. Assumes nothing.
 use mathlib.Core.Path.{_≡_, refl, sym, ap, subst, _∙_}
-use mathlib.Core.Bool.{Bool, true, false, cond}
+use mathlib.Core.Bool.{false, cond}
 use mathlib.Core.List.{List, [], _∷_, _++_}
-use mathlib.Core.Logic.{_≢_, _⊎_, inl, inr, ⊎-elim}
+use mathlib.Core.Logic.{⊎-elim}
 use Prim.Native.Nat.{ℕ, _+_, _≤_, _<_}
 use native.Mathlib.Omega.{arith}
-use lib.Dec.{eqb, ltb}
+use lib.Dec.{eqb}
 use lib.ListN.{getD, length, replicate, set, take}
 use Rattle.std.specs.shelf.Lists.{joined}
 use Rattle.std.proofs.shelf.Lists.{append-nil, getD-past, getD-replicate, getD-set-other, getD-set-same, getD-take, joined-more, length-replicate, length-set, length-take, take-all, take-more, take-more-set}
@@ -88,8 +88,8 @@ filled-entry border f rows from d small room was =
       short = put (λ c r. r .count ≤ 6) rows from new lt (omega arith) (was .short);
       bordered = put (λ c r. r .border ≡ eqb (getD border c 0) 1) rows from new lt (was .bordered from) (was .bordered);
       keeps = put-else (λ c r. c < 256 → entries r ≡ cond (eqb c from) (f c ++ d ∷ []) (f c)) rows from new lt
-      (λ h. entries-more old d room (was .wide from h) ∙ ap (λ xs. xs ++ d ∷ []) (was .keeps from h) ∙ sym (cond-true (eqb from from) _ _ (eq-eqb from from refl)))
-      (λ c ne h. was .keeps c h ∙ sym (cond-false (eqb c from) _ _ (ne-eqb c from ne)));
+          (λ h. entries-more old d room (was .wide from h) ∙ ap (λ xs. xs ++ d ∷ []) (was .keeps from h) ∙ sym (cond-true (eqb from from) _ _ (eq-eqb from from refl)))
+          (λ c ne h. was .keeps c h ∙ sym (cond-false (eqb c from) _ _ (ne-eqb c from ne)));
     }
 
 filled-as : (border : List ℕ) (f g : ℕ → List ℕ) (rows : List Row) → ((c : ℕ) → f c ≡ g c) → Filled border f rows → Filled border g rows

@@ -1,15 +1,15 @@
 -- The tests of a listed ground decide what they say in words. Assumes nothing.
-use mathlib.Core.Path.{_≡_, refl, sym, ap, _∙_}
-use mathlib.Core.Bool.{Bool, true, false, cond, not, _&&_, _||_}
+use mathlib.Core.Path.{_≡_, refl}
+use mathlib.Core.Bool.{true, not, _&&_}
 use mathlib.Core.List.{List, [], _∷_}
-use mathlib.Core.Logic.{_⊎_, inl, inr, ⊎-elim}
-use Prim.Native.Nat.{ℕ, zero, suc, _+_, _≤_, _<_}
+use mathlib.Core.Logic.{inl, inr}
+use Prim.Native.Nat.{ℕ, zero, suc, _≤_, _<_}
 use native.Mathlib.Omega.{arith}
-use lib.Dec.{eqb, leb, ltb}
+use lib.Dec.{leb, ltb}
 use lib.ListN.{getD, length}
 use Rattle.std.specs.Orderings.{Decides}
 use Rattle.std.specs.shelf.Lawful.{all-pass}
-use Rattle.std.specs.shelf.Lists.{All, countBy}
+use Rattle.std.specs.shelf.Lists.{countBy}
 use Rattle.std.proofs.shelf.Elements.{all-from-getD, all-getD}
 use Rattle.std.proofs.shelf.Tests.{and-from, and-parts, le-leb, leb-true, lt-ltb, ltb-true}
 use Rattle.std.proofs.shelf.Ways.{decides-and, decides-below-or, decides-by-and, decides-eqb, decides-like, decides-ltb, decides-not, decides-or}
@@ -77,9 +77,10 @@ above-none zero b h = inr (refl, h)
 above-none (suc a) b h = inl (omega arith)
 
 pub decides-order : (columns : ℕ) (links : List Link) → Decides (ascends columns (0, 0) links) (Link-order columns links)
-decides-order columns links =
-    (λ h. record { inside = inside-of columns (0, 0) links h; upward = upward-of columns (0, 0) links h },
-    λ o. ascends-from columns (0, 0) links (λ some. above-none _ _ (o .inside 0 some .0)) (o .inside) (o .upward))
+decides-order columns links = (
+  λ h. record { inside = inside-of columns (0, 0) links h; upward = upward-of columns (0, 0) links h },
+  λ o. ascends-from columns (0, 0) links (λ some. above-none _ _ (o .inside 0 some .0)) (o .inside) (o .upward),
+)
 
 pub decides-crowded : (columns : ℕ) (links : List Link) → Decides (crowded columns links) (Crowded columns links)
 decides-crowded columns links =

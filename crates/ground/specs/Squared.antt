@@ -1,10 +1,9 @@
 -- The square ground of x by y columns: column y * i + j is at (i, j). Assumes nothing.
-use mathlib.Core.Bool.{Bool, not, cond, _&&_, _||_}
+use mathlib.Core.Bool.{Bool, not, _&&_, _||_}
 use mathlib.Core.List.{List, [], _∷_}
-use Prim.Native.Nat.{ℕ, _+_, _-_, _*_, _/_, _%_, _≤_}
+use Prim.Native.Nat.{ℕ, _+_, _*_, _/_, _%_, _≤_}
 use lib.Dec.{eqb, leb, ltb}
 use Rattle.std.specs.declared.option.Option.{Option}
-use Rattle.std.specs.declared.option.Option.the-variants.{Some, None}
 use Rattle.terms.specs.declared.refusal.Rule.the-variants.{SquareSize}
 use Rattle.terms.specs.Refusals.{Reason, Told, first-of, told}
 use Rattle.ground.specs.Meaning.{Meaning}
@@ -41,11 +40,3 @@ pub record Sized (x y : ℕ) : Type 0 where
 
 abbrev pub square-reasons : ℕ → ℕ → List Reason
 square-reasons x y = record { holds = Sized x y → ⊥; tells = told SquareSize 0 0 } ∷ []
-
-abbrev pub where-so : Bool → ℕ → Option ℕ
-where-so b d = cond b (Some d) None
-
--- the columns on the four sides of a column, where there are such, in rising order
-abbrev pub sides-of : ℕ → ℕ → ℕ → List (Option ℕ)
-sides-of x y c =
-    cond (ltb c (x * y)) (where-so (leb y c) (c - y) ∷ where-so (ltb 0 (c % y)) (c - 1) ∷ where-so (ltb (c % y + 1) y) (c + 1) ∷ where-so (ltb (c + y) (x * y)) (c + y) ∷ []) (None ∷ None ∷ None ∷ None ∷ [])

@@ -11,6 +11,8 @@ mod listed_ground;
 mod row;
 mod square;
 mod square_ground;
+#[cfg(test)]
+mod tests;
 
 pub use linking::is_linked;
 pub use listed::Listed;

@@ -7,7 +7,9 @@ pub fn is_linked<G: Ground>(ground: &G, column: u16, other: u16) -> bool
     ensures { λ r. ⌜ r ≡ G·Ground .meaning (now (ground .entry)) .linked column other ⌝ }
 {
     for k in 0..G::limit() {
-        if let Some(linked) = ground.link(column, k) && linked == other {
+        if let Some(linked) = ground.link(column, k)
+            && linked == other
+        {
             return true;
         }
     }

@@ -1,9 +1,9 @@
 -- Refusals: each rule's number and layer, what a refusal tells, and the first that applies. Assumes nothing.
 use mathlib.Core.Path.{_≡_}
 use mathlib.Core.Bool.{Bool, true, false, cond}
-use mathlib.Core.List.{List, [], _∷_}
+use mathlib.Core.List.{List, [], _∷_, _++_}
 use mathlib.Core.Logic.{_⊎_}
-use Prim.Native.Nat.{ℕ}
+use Prim.Native.Nat.{ℕ, zero, suc}
 use Rattle.std.specs.declared.option.Option.{Option}
 use Rattle.std.specs.declared.option.Option.the-variants.{Some, None}
 use Rattle.std.specs.declared.result.Result.{Result}
@@ -103,6 +103,16 @@ toldOf f = told (f .rule) (f .line) (f .detail)
 abbrev pub first-of : List (Bool × Told) → Option Told
 first-of [] = None
 first-of (t ∷ ts) = cond (t .0) (Some (t .1)) (first-of ts)
+
+-- the first refusal of two
+abbrev pub or-else : Option Told → Option Told → Option Told
+or-else None o = o
+or-else (Some t) o = Some t
+
+-- what f lists of k places from place i on, one place after another
+abbrev pub from-on {ℓ} : {X : Type ℓ} → (ℕ → List X) → ℕ → ℕ → List X
+from-on f i zero = []
+from-on f i (suc k) = f i ++ from-on f (suc i) k
 
 -- a call that answers a value of which P holds where nothing is refused, and the refusal otherwise
 abbrev pub Answers : {T : Type 0} → Option Told → (T → Type 0) → Result T Refusal → Type 0

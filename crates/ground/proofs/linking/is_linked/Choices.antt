@@ -1,3 +1,4 @@
+-- None of the columns told so far is the other one.
 use mathlib.Core.Path.{_≡_}
 use Prim.Native.Nat.{ℕ, _<_}
 use Rattle.std.specs.shelf.Maps.{nth}

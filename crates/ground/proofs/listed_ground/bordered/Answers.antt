@@ -1,3 +1,4 @@
+-- One byte more is kept, and at the end all of them.
 use mathlib.Core.List.{[]}
 use native.Mathlib.Omega.{arith}
 use Rattle.ground.proofs.Filling.{filled-border, filled-byte, filled-none}

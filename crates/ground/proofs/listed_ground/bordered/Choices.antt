@@ -1,3 +1,4 @@
+-- The bytes read so far are kept, and no links.
 use mathlib.Core.List.{[]}
 use lib.ListN.{take}
 use Rattle.ground.specs.Table.{Filled}

@@ -1,3 +1,4 @@
+-- The links read so far are kept.
 use lib.ListN.{take}
 use Rattle.std.specs.shelf.Lists.{joined}
 use Rattle.ground.specs.Table.{Filled, other}

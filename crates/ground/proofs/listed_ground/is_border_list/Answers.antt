@@ -1,3 +1,4 @@
+-- A byte above 1 refuses the border list, and one of 0 or 1 leaves it to the rest.
 use mathlib.Core.Path.{sym, _∙_}
 use Rattle.ground.proofs.Scans.{bits-yes, border-no, border-yes}
 use Rattle.ground.proofs.listed_ground.is_border_list.Needs as need

@@ -1,3 +1,4 @@
+-- What is left of the border list decides for all of it.
 use mathlib.Core.Path.{_≡_}
 use lib.Dec.{leb}
 use lib.ListN.{drop}

@@ -1,3 +1,4 @@
+-- A link out of order refuses the list, and one in order leaves it to the rest.
 use mathlib.Core.Path.{sym, _∙_}
 use mathlib.Core.Logic.{⊎-elim}
 use Rattle.ground.proofs.Scans.{order-end, order-no-above, order-no-inside, order-no-lower, order-yes}

@@ -1,3 +1,4 @@
+-- What is left of the links, after the one before it, decides for all of them.
 use mathlib.Core.Path.{_≡_}
 use lib.ListN.{drop}
 use Rattle.ground.specs.Listing.{ascends}

@@ -1,9 +1,9 @@
-use mathlib.Core.Path.{_≡_, sym, ap, subst, _∙_}
-use mathlib.Core.Bool.{true}
+-- The tests name the first reason to refuse; where there is none, the rows mean what the lists say.
+use mathlib.Core.Path.{sym, ap, subst, _∙_}
 use native.Mathlib.Omega.{arith}
 use Rattle.std.specs.declared.option.Option.the-variants.{Some}
 use Rattle.terms.specs.Refusals.{Settles}
-use Rattle.ground.specs.Listing.{Border-list, ascends, border-fits, listing-reasons}
+use Rattle.ground.specs.Listing.{listing-reasons}
 use Rattle.ground.proofs.Crowds.{crowded-within, not-crowded}
 use Rattle.ground.proofs.Makes.{means-lists, rows-apart, rows-back, rows-tell, rows-within}
 use Rattle.ground.proofs.Ordered.{decides-border, decides-order, listing-settles}

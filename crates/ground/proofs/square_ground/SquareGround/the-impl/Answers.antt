@@ -1,3 +1,4 @@
+-- The laws of the square ground.
 use Rattle.ground.proofs.Beside.{sides-few}
 use Rattle.ground.proofs.Lawful.{square-lawful}
 use Rattle.ground.proofs.square_ground.SquareGround.the-impl.Needs as need

@@ -1,0 +1,10 @@
+// Jobs: a job line and a sheet in, the verdict's text out.
+mod desk;
+mod line;
+mod opened;
+mod order;
+mod reply;
+mod text;
+
+pub use desk::Desk;
+pub use reply::answer;

@@ -1,0 +1,7 @@
+// The target of a column.
+
+#[derive(Clone, Copy)]
+pub struct Target {
+    pub column: u16,
+    pub height: u8,
+}
