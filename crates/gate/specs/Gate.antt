@@ -1,5 +1,5 @@
 -- The gate: what each call asks, in rising order of refusals, and what a grant does. Assumes nothing.
-use mathlib.Core.Bool.{Bool, true, false, not, _&&_, _||_}
+use mathlib.Core.Bool.{Bool, not, _&&_, _||_}
 use mathlib.Core.List.{List, [], _∷_, _++_}
 use Prim.Native.Nat.{ℕ, suc}
 use lib.Dec.{ltb, leb, eqb}
@@ -20,7 +20,7 @@ use Rattle.gate.specs.declared.call.Call.the-variants.{Enter, Move, Lay, Lift,
 use Rattle.gate.specs.declared.column.Part.the-variants.{Entering, Leaving, Departing, Laying, Lifting}
 use Rattle.gate.specs.declared.column.State.the-variants.{Busy}
 use Rattle.gate.specs.Column.{held, stands, robot, carries}
-use Rattle.gate.specs.Scene.{Columns, Scene, height-at, state-at, put, begin, tick-all, ticked-marks, tried, robots}
+use Rattle.gate.specs.Scene.{Columns, Scene, height-at, state-at, put, begin, tick-all, renewed-marks, tried, robots}
 
 abbrev pub Test : Type 0
 Test = Bool × Told
@@ -112,7 +112,7 @@ granted-marks m xs ms (Move c d) = ms
 granted-marks m xs ms (Lay c d) = set ms d 1
 granted-marks m xs ms (Lift c d) = set ms d 1
 granted-marks m xs ms (Leave c) = ms
-granted-marks m xs ms Tick = ticked-marks m xs ms
+granted-marks m xs ms Tick = renewed-marks (m .columns) (tick-all xs) ms
 granted-marks m xs ms Recall = ms
 
 abbrev pub grant : Scene → Call → Scene

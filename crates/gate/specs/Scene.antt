@@ -13,7 +13,7 @@ use Rattle.gate.specs.declared.column.Column.{Column}
 use Rattle.gate.specs.declared.column.Part.{Part}
 use Rattle.gate.specs.declared.column.State.{State}
 use Rattle.gate.specs.declared.column.State.the-variants.{Busy}
-use Rattle.gate.specs.Column.{column, fresh, facing, robot, carries, changes, runs, goes-out, ticked}
+use Rattle.gate.specs.Column.{column, fresh, facing, robot, carries, changes, goes-out, ticked}
 
 abbrev pub Columns : Type 0
 Columns = List Column
@@ -27,6 +27,9 @@ pub record Scene : Type 0 where
 
 abbrev pub with-columns : Scene → Columns → Scene
 with-columns v xs = record { meaning = v .meaning; settings = v .settings; columns = xs; marks = v .marks }
+
+abbrev pub with-marks : Scene → List ℕ → Scene
+with-marks v ms = record { meaning = v .meaning; settings = v .settings; columns = v .columns; marks = ms }
 
 abbrev pub at : Columns → ℕ → Column
 at xs c = getD xs c fresh
@@ -88,9 +91,9 @@ blocks-leaving m xs = sum-below (λ c. one-if (goes-out (state-at xs c))) (m .co
 abbrev pub mark-of : Columns → ℕ → ℕ
 mark-of xs c = one-if (changes (state-at xs c))
 
--- the marks after a tick: those of the ground's columns say what their states say
-abbrev pub ticked-marks : Meaning → Columns → List ℕ → List ℕ
-ticked-marks m xs ms = map (λ c. cond (ltb c (m .columns)) (mark-of (tick-all xs) c) (getD ms c 0)) (counting 0 256)
+-- marks that say of the columns before an end what their states say
+abbrev pub renewed-marks : ℕ → Columns → List ℕ → List ℕ
+renewed-marks end xs ms = map (λ c. cond (ltb c end) (mark-of xs c) (getD ms c 0)) (counting 0 256)
 
 -- a site as it opens: no robot, all heights 0, nothing changing
 abbrev pub opened : Meaning → Site-settings → Scene

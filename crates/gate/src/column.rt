@@ -47,9 +47,13 @@ impl Part {
         ensures { λ r. ⌜ r ≡ block-in self ⌝ }
     {
         match self {
-            Part::Entering { block } | Part::Leaving { block } | Part::Departing { block, .. } => block,
+            Part::Entering { block } | Part::Leaving { block } | Part::Departing { block, .. } =>
+                block,
             Part::Laying { .. } => true,
-            Part::Lifting { .. } | Part::Arriving { .. } | Part::Rising { .. } | Part::Sinking { .. } => false,
+            Part::Lifting { .. }
+            | Part::Arriving { .. }
+            | Part::Rising { .. }
+            | Part::Sinking { .. } => false,
         }
     }
 
@@ -58,7 +62,10 @@ impl Part {
         ensures { λ r. ⌜ r ≡ column (built self height) (rest (stays self)) ⌝ }
     {
         let (height, state) = match self {
-            Part::Entering { block } | Part::Arriving { block, .. } => (height, State::Standing { block }),
+            Part::Entering { block } | Part::Arriving { block, .. } => (
+                height,
+                State::Standing { block },
+            ),
             Part::Leaving { .. } | Part::Departing { .. } => (height, State::Free),
             Part::Laying { .. } => (height, State::Standing { block: false }),
             Part::Lifting { .. } => (height, State::Standing { block: true }),
@@ -71,7 +78,7 @@ impl Part {
 
 impl State {
     // Whether some robot holds the column.
-    pub fn is_held(self) -> bool
+    pub(crate) fn is_held(self) -> bool
         ensures { λ r. ⌜ r ≡ held self ⌝ }
     {
         match self {
@@ -81,7 +88,7 @@ impl State {
     }
 
     // Whether an action runs at the column.
-    pub fn runs(self) -> bool
+    pub(crate) fn runs(self) -> bool
         ensures { λ r. ⌜ r ≡ runs self ⌝ }
     {
         match self {
@@ -91,7 +98,7 @@ impl State {
     }
 
     // Whether a robot stands at the column: no action of it runs.
-    pub fn stands(self) -> bool
+    pub(crate) fn stands(self) -> bool
         ensures { λ r. ⌜ r ≡ stands self ⌝ }
     {
         match self {
@@ -101,7 +108,7 @@ impl State {
     }
 
     // Whether a robot is at the column.
-    pub fn has_robot(self) -> bool
+    pub(crate) fn has_robot(self) -> bool
         ensures { λ r. ⌜ r ≡ robot self ⌝ }
     {
         match self {
@@ -112,7 +119,7 @@ impl State {
     }
 
     // Whether a robot with a block is at the column.
-    pub fn has_block(self) -> bool
+    pub(crate) fn has_block(self) -> bool
         ensures { λ r. ⌜ r ≡ carries self ⌝ }
     {
         match self {
@@ -123,11 +130,14 @@ impl State {
     }
 
     // Whether the column's height is about to change.
-    pub fn is_changing(self) -> bool
+    pub(crate) fn is_changing(self) -> bool
         ensures { λ r. ⌜ r ≡ changes self ⌝ }
     {
         match self {
-            State::Busy { part: Part::Rising { .. } | Part::Sinking { .. }, .. } => true,
+            State::Busy {
+                part: Part::Rising { .. } | Part::Sinking { .. },
+                ..
+            } => true,
             _ => false,
         }
     }
@@ -135,12 +145,15 @@ impl State {
 
 impl Column {
     // One timestep passes: the column goes on from its own state.
-    pub fn tick(&mut self)
+    pub(crate) fn tick(&mut self)
         ensures { λ _. ⌜ now (self .exit) ≡ ticked (now (self .entry)) ⌝ }
     {
         match self.state {
             State::Free | State::Standing { .. } => {}
-            State::Busy { part, left } if left > 1 => self.state = State::Busy { part, left: left - 1 },
+            State::Busy { part, left } if left > 1 => self.state = State::Busy {
+                part,
+                left: left - 1,
+            },
             State::Busy { part, .. } => *self = part.end(self.height),
         }
     }

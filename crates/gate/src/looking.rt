@@ -14,7 +14,10 @@ impl<G: Ground> Site<G> {
     {
         match self.columns.get(column as usize) {
             Some(here) => *here,
-            None => Column { height: 0, state: State::Free },
+            None => Column {
+                height: 0,
+                state: State::Free,
+            },
         }
     }
 
@@ -22,13 +25,13 @@ impl<G: Ground> Site<G> {
     pub fn robots(&self) -> u16
         ensures { λ r. ⌜ r ≡ robots (G·Ground .meaning (now (self .entry) .ground)) (sceneOf (G·Ground .meaning) (now (self .entry)) .columns) ⌝ }
     {
-        let mut count = 0;
+        let mut robots = 0;
         for column in 0..self.ground.columns() {
             if self.look(column).state.has_robot() {
-                count += 1;
+                robots += 1;
             }
         }
-        count
+        robots
     }
 
     // How many blocks stand on the site.
@@ -46,12 +49,12 @@ impl<G: Ground> Site<G> {
     pub fn blocks_carried(&self) -> u16
         ensures { λ r. ⌜ r ≡ blocks-carried (G·Ground .meaning (now (self .entry) .ground)) (sceneOf (G·Ground .meaning) (now (self .entry)) .columns) ⌝ }
     {
-        let mut count = 0;
+        let mut carried = 0;
         for column in 0..self.ground.columns() {
             if self.look(column).state.has_block() {
-                count += 1;
+                carried += 1;
             }
         }
-        count
+        carried
     }
 }

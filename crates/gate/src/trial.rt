@@ -6,7 +6,7 @@ ghost use lib.Dec.{eqb};
 ghost use lib.ListN.{length, set};
 ghost use Rattle.std.specs.Options.{isSome};
 ghost use Rattle.ways.specs.View.{marked, stepsIn};
-ghost use Rattle.gate.specs.Scene.{height-at, lying};
+ghost use Rattle.gate.specs.Scene.{lying};
 ghost use Rattle.gate.specs.Gate.{stranded-by, lowest-stranded};
 use crate::column::Column;
 use crate::column::ColumnTall;
@@ -26,7 +26,11 @@ impl Drop for Trial<'_> {
         ensures { λ _. ⌜ now (self .exit .0) ≡ set (now (self .entry .marks)) (self .entry .column) (self .entry .before) ⌝ }
     {
         self.marks[self.column] = self.before;
-        let Trial { marks: _, column: _, before: _ } = self;
+        let Trial {
+            marks: _,
+            column: _,
+            before: _,
+        } = self;
     }
 }
 
@@ -42,7 +46,11 @@ impl Trial<'_> {
     fn keep(self)
         ensures { λ _. ⌜ now (self .exit .0) ≡ now (self .entry .marks) ⌝ }
     {
-        let Trial { marks: _, column: _, before: _ } = self;
+        let Trial {
+            marks: _,
+            column: _,
+            before: _,
+        } = self;
     }
 }
 
@@ -70,7 +78,12 @@ fn is_stranded(columns: &[Column], ways: &Ways, column: u16) -> bool
 }
 
 // Marks a column as changing, unless a robot then has no way home: the lowest column of such a robot is told, and no mark is left.
-pub(crate) fn try_change<G: Ground>(ground: &G, columns: &[Column], marks: &mut [u8], column: u16) -> Option<u16>
+pub(crate) fn try_change<G: Ground>(
+    ground: &G,
+    columns: &[Column],
+    marks: &mut [u8],
+    column: u16,
+) -> Option<u16>
     requires { ⌜ column < length (now marks) ⌝ }
     ensures answer { λ r. ⌜ r ≡ lowest-stranded (G·Ground .meaning (now (ground .entry))) (now (columns .entry)) (lying (now (columns .entry)) (λ c. eqb c column || marked (now (marks .entry)) c)) ⌝ }
     ensures marks { λ r. ⌜ now (marks .exit) ≡ cond (isSome r) (now (marks .entry)) (set (now (marks .entry)) column 1) ⌝ }
@@ -78,7 +91,11 @@ pub(crate) fn try_change<G: Ground>(ground: &G, columns: &[Column], marks: &mut 
     let at = column as usize;
     let before = marks[at];
     marks[at] = 1;
-    let trial = Trial { marks, column: at, before };
+    let trial = Trial {
+        marks,
+        column: at,
+        before,
+    };
     let stranded = trial.lowest_stranded(ground, columns);
     if stranded.is_some() {
         return stranded;

@@ -180,13 +180,6 @@ module _ (x y c d : ℕ) (low : 1 ≤ y) (in′ : c < x * y) where
       (λ s. let t = from-side s in (in′, (t .0, t .1)))
       (decides-and (ltb c (x * y)) _ (decides-ltb c (x * y)) (decides-and (ltb d (x * y)) _ (decides-ltb d (x * y)) near-tells))
 
-pub four-sides : (x y c : ℕ) → length (sides-of x y c) ≡ 4
-four-sides x y c = go (ltb c (x * y))
-  where
-    go : (b : Bool) → length (cond b (where-so (leb y c) (c - y) ∷ where-so (ltb 0 (c % y)) (c - 1) ∷ where-so (ltb (c % y + 1) y) (c + 1) ∷ where-so (ltb (c + y) (x * y)) (c + y) ∷ []) (None ∷ None ∷ None ∷ None ∷ [])) ≡ 4
-    go true = refl
-    go false = refl
-
 module _ (x y : ℕ) (low : 1 ≤ y) where
   within : (c d : ℕ) → squared x y .linked c d ≡ true → d < x * y
   within c d h = ltb-true d (x * y) (and-parts (ltb d (x * y)) _ (and-parts (ltb c (x * y)) _ h .1) .0)

@@ -134,11 +134,6 @@ pub impl Ground for Listed as ListedGround {
         if column >= self.columns {
             return None;
         }
-        let row = self.rows[column as usize];
-        if k < row.count as usize {
-            Some(row.to[k])
-        } else {
-            None
-        }
+        self.rows[column as usize].at(k)
     }
 }

@@ -1,9 +1,12 @@
 // What a listed ground keeps of one column.
 ghost use mathlib.Core.Path.{_≡_};
 ghost use mathlib.Core.Bool.{cond};
+ghost use Prim.Native.Nat.{_≤_};
 ghost use lib.Dec.{ltb};
+ghost use lib.ListN.{length};
+ghost use Rattle.std.specs.shelf.Maps.{nth};
 ghost use Rattle.std.specs.declared.option.Option.the-variants.{Some, None};
-ghost use Rattle.ground.specs.Table.{with-link};
+ghost use Rattle.ground.specs.Table.{entries, with-link};
 
 // Whether the column is at the border, and the columns linked with it: the first `count` of `to`.
 #[derive(Clone, Copy)]
@@ -31,5 +34,17 @@ impl Row {
         self.to[self.count as usize] = column;
         self.count += 1;
         Some(self)
+    }
+
+    // Link number k of the row, if there are so many.
+    pub(crate) fn at(&self, k: usize) -> Option<u16>
+        requires { ⌜ now self .count ≤ 6 ⌝ ∗ ⌜ length (now self .to) ≡ 6 ⌝ }
+        ensures { λ r. ⌜ r ≡ nth (entries (now (self .entry))) k ⌝ }
+    {
+        if k < self.count as usize {
+            Some(self.to[k])
+        } else {
+            None
+        }
     }
 }

@@ -1,6 +1,11 @@
 // Making a square ground, and what it tells.
 ghost use mathlib.Core.Path.{_≡_};
+ghost use Prim.Native.Nat.{_≤_};
+ghost use lib.ListN.{length};
+ghost use Rattle.std.specs.shelf.Maps.{nth};
 ghost use Rattle.terms.specs.Refusals.{Answers, Settles, refusalIn};
+ghost use Rattle.ground.specs.Meaning.{neighbours};
+ghost use Rattle.ground.specs.Members.{somes};
 ghost use Rattle.ground.specs.Squared.{squared, square-refusal, square-reasons};
 ghost use Rattle.ground.specs.Sides.{sides-of};
 ghost use Rattle.ground.specs.View.{squareOf};
@@ -24,30 +29,66 @@ impl Square {
         })
     }
 
-    // The columns on the four sides of a column, where there are such, in rising order.
-    fn sides(&self, column: u16) -> [Option<u16>; 4]
-        ensures { λ r. ⌜ r ≡ sides-of (now (self .entry) .x) (now (self .entry) .y) column ⌝ }
+    // The columns linked with a column, where there are such, in rising order.
+    fn around(&self, column: u16) -> [Option<u16>; 4]
+        ensures { λ r. ⌜ somes r ≡ neighbours (squareOf (now (self .entry))) column ⌝ }
     {
-        let y = self.y as u16;
-        let columns = self.x as u16 * y;
-        if column >= columns {
-            return [None; 4];
-        }
-        let across = column % y;
-        let before = if column >= y { Some(column - y) } else { None };
-        let left = if across > 0 { Some(column - 1) } else { None };
-        let right = if across + 1 < y {
-            Some(column + 1)
-        } else {
-            None
-        };
-        let behind = if column + y < columns {
-            Some(column + y)
-        } else {
-            None
-        };
-        [before, left, right, behind]
+        sides(self.x as u16, self.y as u16, column)
     }
+}
+
+// The columns on the four sides of a column, where there are such, in rising order.
+fn sides(x: u16, y: u16, column: u16) -> [Option<u16>; 4]
+    requires { ⌜ x ≤ 16 ⌝ ∗ ⌜ 1 ≤ y ⌝ ∗ ⌜ y ≤ 16 ⌝ }
+    ensures { λ r. ⌜ r ≡ sides-of x y column ⌝ }
+{
+    let columns = x * y;
+    if column >= columns {
+        return [None; 4];
+    }
+    let across = column % y;
+    let before = if column >= y { Some(column - y) } else { None };
+    let left = if across > 0 { Some(column - 1) } else { None };
+    let right = if across + 1 < y {
+        Some(column + 1)
+    } else {
+        None
+    };
+    let behind = if column + y < columns {
+        Some(column + y)
+    } else {
+        None
+    };
+    [before, left, right, behind]
+}
+
+// How many of some sides are there.
+fn count(sides: &[Option<u16>]) -> usize
+    ensures { λ r. ⌜ r ≡ length (somes (now (sides .entry))) ⌝ }
+{
+    let mut count = 0;
+    for side in sides {
+        if side.is_some() {
+            count += 1;
+        }
+    }
+    count
+}
+
+// Number k of those sides that are there.
+fn pick(sides: &[Option<u16>], k: usize) -> Option<u16>
+    ensures { λ r. ⌜ r ≡ nth (somes (now (sides .entry))) k ⌝ }
+{
+    let mut left = k;
+    for side in sides {
+        if let Some(linked) = *side {
+            if left == 0 {
+                return Some(linked);
+            }
+            left -= 1;
+        }
+    }
+    None
 }
 
 pub impl Ground for Square as SquareGround {
@@ -77,25 +118,10 @@ pub impl Ground for Square as SquareGround {
     }
 
     fn links(&self, column: u16) -> usize {
-        let mut count = 0;
-        for side in self.sides(column) {
-            if side.is_some() {
-                count += 1;
-            }
-        }
-        count
+        count(&self.around(column))
     }
 
     fn link(&self, column: u16, k: usize) -> Option<u16> {
-        let mut left = k;
-        for side in self.sides(column) {
-            if let Some(linked) = side {
-                if left == 0 {
-                    return Some(linked);
-                }
-                left -= 1;
-            }
-        }
-        None
+        pick(&self.around(column), k)
     }
 }

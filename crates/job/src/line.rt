@@ -30,7 +30,13 @@ fn order_in(fields: &[u8]) -> Result<Order, u16>
     let Some(set) = number(&fields[24..30]) else {
         return Err(5);
     };
-    Ok(Order { x, y, levels, robots, set })
+    Ok(Order {
+        x,
+        y,
+        levels,
+        robots,
+        set,
+    })
 }
 
 // Whether a line of 35 bytes begins with the word JOB and ends with a newline.

@@ -62,6 +62,10 @@ busiest t plan = go (latest t plan)
         not-so i l (inl y) = absurd (none i l (decides-runs t (line plan i) .0 y))
         not-so i l (inr f) = f
     go (inr (i, l, r, best)) =
-        inr (i, l, count-le (runs t) (runs (line plan i .start)) no-action plan
-        (λ k m y. let q = decides-runs t (line plan k) .0 y in
-        decides-runs (line plan i .start) (line plan k) .1 (record { begun = best k m q; before-end = omega (arith, r .begun, q .before-end) })))
+        inr (
+          i,
+          l,
+          count-le (runs t) (runs (line plan i .start)) no-action plan
+              (λ k m y. let q = decides-runs t (line plan k) .0 y in
+              decides-runs (line plan i .start) (line plan k) .1 (record { begun = best k m q; before-end = omega (arith, r .begun, q .before-end) })),
+        )

@@ -173,8 +173,8 @@ module _ {m : Meaning} {s : Site-settings} {plan : List Action} {targets : ℕ �
           apart = apart k l;
           follows = follows k l;
           limit =
-            subst (λ (r : List Action). countBy (runs (line plan k .start)) r ≤ s .robots) (take-suc plan k no-action l)
-            (omega (arith, sumBy-take-le (λ x. cond (runs (line plan k .start) x) 1 0) plan (suc k), ru .limit (line plan k .start)));
+              subst (λ (r : List Action). countBy (runs (line plan k .start)) r ≤ s .robots) (take-suc plan k no-action l)
+              (omega (arith, sumBy-take-le (λ x. cond (runs (line plan k .start) x) 1 0) plan (suc k), ru .limit (line plan k .start)));
         };
         carried-on = ru .carried-on;
         reached = λ c l. ru .reached c (makespan plan) l (ends-by plan);
@@ -199,9 +199,13 @@ module _ {m : Meaning} {s : Site-settings} {plan : List Action} {targets : ℕ �
           let b′ : line plan i .end < line plan k .start = subst (λ (a : Action). a .end < line plan k .start) f b in
           let jk : j < k = elim (cases-lt j k) [ inl h ↦ h | inr h ↦ absurd (omega (arith, ru .in-order k j h lj, st .when)) ] in
           let st′ : Starts (line plan j) (line (take k plan) i .end) (end-column (line (take k plan) i)) =
-            subst (λ (a : Action). Starts (line plan j) (a .end) (end-column a)) (sym f) st in
-          out (j, omega (arith, size k l), subst (λ (x : ℕ). Starts (line (take k plan) j) (line (take k plan) i .end) x) e
-          (subst (λ (a : Action). Starts a (line (take k plan) i .end) (end-column (line (take k plan) i))) (sym (front plan k j jk)) st′))
+          subst (λ (a : Action). Starts (line plan j) (a .end) (end-column a)) (sym f) st in
+          out (
+            j,
+            omega (arith, size k l),
+            subst (λ (x : ℕ). Starts (line (take k plan) j) (line (take k plan) i .end) x) e
+                (subst (λ (a : Action). Starts a (line (take k plan) i .end) (end-column (line (take k plan) i))) (sym (front plan k j jk)) st′),
+          )
 
       apart : (k : ℕ) → k < length plan → (i : ℕ) → i < length (take k plan)
           → ((t : ℕ) × (c : ℕ) × Runs (line (take k plan) i) t × Runs (line plan k) t × Touches (line (take k plan) i) c × Touches (line plan k) c) → ⊥

@@ -65,9 +65,10 @@ pub decides-some-of : {X : Type 0} (p : X → Bool) (P : X → Type 0) (d : X) �
     → Decides (some-of p xs) ((i : ℕ) × (i < length xs) × P (getD xs i d))
 decides-some-of p P d each [] = no (λ w. omega (arith, w .1))
 decides-some-of p P d each (x ∷ xs) =
-    let ih = decides-some-of p P d each xs in
-    (λ e. ⊎-elim (λ f. (0, omega arith, each x .0 f)) (λ f. let w = ih .0 f in (suc (w .0), omega (arith, w .1), w .2)) (or-cases (p x) (some-of p xs) e),
-    back (ih .1))
+    let ih = decides-some-of p P d each xs in (
+      λ e. ⊎-elim (λ f. (0, omega arith, each x .0 f)) (λ f. let w = ih .0 f in (suc (w .0), omega (arith, w .1), w .2)) (or-cases (p x) (some-of p xs) e),
+      back (ih .1),
+    )
   where
     back : (((i : ℕ) × (i < length xs) × P (getD xs i d)) → some-of p xs ≡ true) → ((i : ℕ) × (i < length (x ∷ xs)) × P (getD (x ∷ xs) i d)) → (p x || some-of p xs) ≡ true
     back rest (zero, l, q) = or-left (p x) (some-of p xs) (each x .1 q)

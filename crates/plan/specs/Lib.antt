@@ -5,3 +5,4 @@ pub mod Asking
 pub mod View
 pub mod Rules
 pub mod Judged
+pub mod Reasons

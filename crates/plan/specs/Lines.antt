@@ -61,8 +61,8 @@ action-of l =
     record {
       line = l .line;
       work =
-        work-of (l .letter) (marked (l .from .column)) (marked (l .to .column))
-        (eqb (numbered (l .from .column)) (numbered (l .to .column)) && eqb (numbered (l .from .height)) (numbered (l .to .height)));
+          work-of (l .letter) (marked (l .from .column)) (marked (l .to .column))
+          (eqb (numbered (l .from .column)) (numbered (l .to .column)) && eqb (numbered (l .from .height)) (numbered (l .to .height)));
       from = inside (l .from .column) (l .from .column) (l .to .column);
       to = inside (l .to .column) (l .to .column) (l .from .column);
       from-height = inside (l .from .column) (l .from .height) (l .to .height);

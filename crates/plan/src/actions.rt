@@ -79,6 +79,9 @@ impl Action {
         ensures { λ r. ⌜ r ≡ shares (actionOf (now (self .entry))) (actionOf (now (other .entry))) ⌝ }
     {
         let (from, to) = (other.from.column, other.to.column);
-        self.from.column == from || self.from.column == to || self.to.column == from || self.to.column == to
+        self.from.column == from
+            || self.from.column == to
+            || self.to.column == from
+            || self.to.column == to
     }
 }

@@ -10,13 +10,13 @@ ghost use Rattle.terms.specs.View.{settingsOf};
 ghost use Rattle.plan.specs.Lines.{marked, numbered, marks-fit, action-of, on-scale, joins, top, due, line-tests};
 ghost use Rattle.plan.specs.View.{actionOf, startOf, endOf};
 ghost use Rattle.plan.specs.Asking.{askedOf, asked-in};
-use crate::asked::Asked;
-use crate::asked::Point;
 use crate::Action;
 use crate::Span;
 use crate::Spot;
-use ground::is_linked;
+use crate::asked::Asked;
+use crate::asked::Point;
 use ground::Ground;
+use ground::is_linked;
 use sheet::ActLine;
 use sheet::Letter;
 use sheet::Place;
@@ -52,7 +52,10 @@ fn is_well_marked(line: &ActLine) -> bool
 {
     let enters = is_mark(line.from.column);
     let leaves = is_mark(line.to.column);
-    if enters != is_mark(line.from.height) || leaves != is_mark(line.to.height) || (enters && leaves) {
+    if enters != is_mark(line.from.height)
+        || leaves != is_mark(line.to.height)
+        || (enters && leaves)
+    {
         return false;
     }
     match line.letter {
@@ -66,7 +69,10 @@ fn is_well_marked(line: &ActLine) -> bool
 fn point(side: &Side) -> Point
     ensures { λ r. ⌜ (r .column ≡ numbered (now (side .entry) .column)) × (r .height ≡ numbered (now (side .entry) .height)) ⌝ }
 {
-    Point { column: number_in(side.column), height: number_in(side.height) }
+    Point {
+        column: number_in(side.column),
+        height: number_in(side.height),
+    }
 }
 
 // What a line asks for.
@@ -85,7 +91,11 @@ fn asked(line: &ActLine) -> Asked
         Letter::P => Work::PickUp,
         Letter::D => Work::Deliver,
     };
-    Asked { work, from: if enters { to } else { from }, to: if leaves { from } else { to } }
+    Asked {
+        work,
+        from: if enters { to } else { from },
+        to: if leaves { from } else { to },
+    }
 }
 
 // Whether a column is on the ground and comes no higher than the highest height.
@@ -129,7 +139,11 @@ fn lasting(settings: &Settings, work: Work, line: &ActLine) -> Option<Span>
 }
 
 // The action that a line stands for, or the first rule that the line breaks by itself.
-pub fn action_of<G: Ground>(ground: &G, settings: &Settings, line: &ActLine) -> Result<Action, Refusal>
+pub fn action_of<G: Ground>(
+    ground: &G,
+    settings: &Settings,
+    line: &ActLine,
+) -> Result<Action, Refusal>
     ensures { λ r. ⌜ Answers (first-of (line-tests (G·Ground .meaning (now (ground .entry))) (settingsOf (now (settings .entry))) (now (line .entry)))) (λ a. actionOf a ≡ action-of (now (line .entry))) r ⌝ }
 {
     if !is_well_marked(line) {
@@ -139,13 +153,26 @@ pub fn action_of<G: Ground>(ground: &G, settings: &Settings, line: &ActLine) -> 
     if !is_within(ground, settings, work, from) || !is_within(ground, settings, work, to) {
         return Err(Refusal::at(Rule::OffScale, line.line, 0));
     }
-    let from = Spot { column: from.column as u16, height: from.height as u8 };
-    let to = Spot { column: to.column as u16, height: to.height as u8 };
+    let from = Spot {
+        column: from.column as u16,
+        height: from.height as u8,
+    };
+    let to = Spot {
+        column: to.column as u16,
+        height: to.height as u8,
+    };
     if !is_joined(ground, work, from.column, to.column) {
         return Err(Refusal::at(Rule::NotConnected, line.line, 0));
     }
     let Some(span) = lasting(settings, work, line) else {
         return Err(Refusal::at(Rule::WrongDuration, line.line, 0));
     };
-    Ok(Action { line: line.line, work, from, to, carry: line.carry, span })
+    Ok(Action {
+        line: line.line,
+        work,
+        from,
+        to,
+        carry: line.carry,
+        span,
+    })
 }

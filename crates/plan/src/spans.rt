@@ -13,7 +13,11 @@ impl Span {
     pub fn new(start: u32, end: u32) -> Option<Span>
         ensures { λ r. ⌜ BySome r (end ≤ start) (λ s. (startOf s ≡ start) × (endOf s ≡ end)) ⌝ }
     {
-        if start < end { Some(Span { start, end }) } else { None }
+        if start < end {
+            Some(Span { start, end })
+        } else {
+            None
+        }
     }
 
     pub fn start(&self) -> u32

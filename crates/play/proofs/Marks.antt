@@ -14,10 +14,12 @@ use Rattle.std.proofs.shelf.Tests.{cases-eq, cases-lt, cond-false, cond-true, e
 use Rattle.terms.specs.declared.work.Work.{Work}
 use Rattle.terms.specs.declared.work.Work.the-variants.{Entry, Leave, Wait, Move, PickUp, Deliver}
 use Rattle.ground.specs.Meaning.{Meaning}
+use Rattle.gate.specs.declared.call.Call.the-variants.{Tick}
 use Rattle.gate.specs.declared.column.Column.{Column}
 use Rattle.gate.specs.declared.column.State.{State}
 use Rattle.gate.specs.Column.{changes, fresh}
-use Rattle.gate.specs.Scene.{Columns, mark-of, one-if, state-at, tick-all, ticked-marks}
+use Rattle.gate.specs.Gate.{granted-marks}
+use Rattle.gate.specs.Scene.{Columns, mark-of, one-if, state-at, tick-all}
 use Rattle.plan.specs.Plan.{Action, Touches}
 use Rattle.play.specs.Shown.{changes-height}
 use Rattle.play.proofs.Faces.{shown-changes}
@@ -44,7 +46,7 @@ module _ (m : Meaning) {xs : Columns} {ms : List ℕ} (size : length xs ≡ m .c
         ∙ mk .tells c ∙ past xs c (omega arith) ∙ sym (past (tick-all xs) c (omega (arith, length-tick xs)))
   ]
 
-  pub marked-tick : Marked (tick-all xs) (ticked-marks m xs ms)
+  pub marked-tick : Marked (tick-all xs) (granted-marks m xs ms Tick)
   unfolding mark-then
   marked-tick =
       record {
@@ -52,7 +54,7 @@ module _ (m : Meaning) {xs : Columns} {ms : List ℕ} (size : length xs ≡ m .c
         tells = λ c. elim (cases-lt c 256) [
           | inl l ↦ getD-map-counting mark-then 0 256 c c 0 l (omega arith) ∙ mark-is c
           | inr g ↦
-              getD-past (ticked-marks m xs ms) c 0 (omega (arith, length-map-counting mark-then 0 256))
+              getD-past (granted-marks m xs ms Tick) c 0 (omega (arith, length-map-counting mark-then 0 256))
               ∙ sym (past (tick-all xs) c (omega (arith, length-tick xs)))
         ];
       }

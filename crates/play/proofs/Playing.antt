@@ -17,8 +17,10 @@ use Rattle.terms.specs.Refusals.{Told}
 use Rattle.terms.specs.declared.work.Work.{Work}
 use Rattle.terms.specs.declared.work.Work.the-variants.{Leave}
 use Rattle.ground.specs.Meaning.{Meaning}
+use Rattle.gate.specs.declared.call.Call.the-variants.{Tick}
 use Rattle.gate.specs.declared.column.State.the-variants.{Free}
-use Rattle.gate.specs.Scene.{Columns, Scene, state-at, tick-all, ticked-marks}
+use Rattle.gate.specs.Gate.{granted-marks}
+use Rattle.gate.specs.Scene.{Columns, Scene, state-at, tick-all}
 use Rattle.gate.specs.Scene.{height-at as height-in}
 use Rattle.gate.specs.Words.{Stranded}
 use Rattle.plan.specs.Plan.{Action, line, no-action}
@@ -58,8 +60,8 @@ module _ {m : Meaning} {s : Site-settings} {plan : List Action} {targets : ℕ �
       record { columns = xs; marks = ms; is = refl; shows = subst (λ (u : ℕ). Shows m plan k u xs) e sh; marked = mk }
   ticked (suc d) k t xs ms sh mk h =
       let e : suc t + d ≡ t + suc d = omega arith in
-      subst (λ (u : ℕ). Showing m s plan k u (ticks d (site m s (tick-all xs) (ticked-marks m xs ms)))) e
-      (ticked d k (suc t) (tick-all xs) (ticked-marks m xs ms) (shows-tick ob sh (λ i g l. omega (arith, h i g l)))
+      subst (λ (u : ℕ). Showing m s plan k u (ticks d (site m s (tick-all xs) (granted-marks m xs ms Tick)))) e
+      (ticked d k (suc t) (tick-all xs) (granted-marks m xs ms Tick) (shows-tick ob sh (λ i g l. omega (arith, h i g l)))
       (marked-tick m (sh .size) (ob .law .few) mk) (λ i g l. omega (arith, h i g l)))
 
   shows-ready : (k now : ℕ) (xs : Columns) (ms : List ℕ) → k < length plan → Shows m plan k now xs → Marked xs ms

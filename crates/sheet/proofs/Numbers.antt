@@ -109,6 +109,6 @@ shows-number bs n w =
     let f = first-digit n small in
     let e : unspaced bs ≡ decimal n = ap unspaced (w .text) ∙ unspaced-text (w .spaces) (decimal n) (λ q. omega (arith, f .0)) in
     let all : digits 0 (decimal n) ≡ Some n =
-      digits-all 0 (decimal n) ∙ ap (λ (t : Bool). cond t (Some (readOn 0 (decimal n))) None) (digits-decimal own n (omega arith)) ∙ ap Some (value-decimal own n (omega arith)) in
+    digits-all 0 (decimal n) ∙ ap (λ (t : Bool). cond t (Some (readOn 0 (decimal n))) None) (digits-decimal own n (omega arith)) ∙ ap Some (value-decimal own n (omega arith)) in
     ap (λ (t : Bool). cond t (plain (unspaced bs)) None) (le-leb (length bs) 9 (w .narrow))
     ∙ ap plain e ∙ joins (decimal n) (decimal-some n (omega arith)) (f .1) ∙ all

@@ -139,11 +139,19 @@ ends-decides b P n (Some (End k)) d = end-decides b P n k d
 
 line-decides : (m : Meaning) (s : Site-settings) (sheet : List ℕ) (i : ℕ) → Decide (tests-at m s sheet i) (reasons-at m s sheet i)
 line-decides m s sheet i =
-    let here = shown-at sheet i in
-    (shape-decides (lineAt sheet i), refl,
-    (decides-some (bad-field (suc i) (lineAt sheet i)), refl,
-    (misplaced-decides m s (targets sheet i) (length (acts sheet i)) here, refl,
-    (ends-decides (eqb (suc i) (lines-in sheet)) (suc i ≡ lines-in sheet) (length (acts sheet i)) here (decides-eqb (suc i) (lines-in sheet)), refl, tt))))
+    let here = shown-at sheet i in (
+      shape-decides (lineAt sheet i),
+      refl,
+      (
+        decides-some (bad-field (suc i) (lineAt sheet i)),
+        refl,
+        (
+          misplaced-decides m s (targets sheet i) (length (acts sheet i)) here,
+          refl,
+          (ends-decides (eqb (suc i) (lines-in sheet)) (suc i ≡ lines-in sheet) (length (acts sheet i)) here (decides-eqb (suc i) (lines-in sheet)), refl, tt),
+        ),
+      ),
+    )
 
 pub reading-settles : (m : Meaning) (s : Site-settings) (sheet : List ℕ) → Settles (reading-reasons m s sheet) (reading-refusal m s sheet)
 unfolding reading-reasons reading-refusal

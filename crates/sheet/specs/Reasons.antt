@@ -56,9 +56,9 @@ abbrev pub reasons-at : Meaning → Site-settings → List ℕ → ℕ → List 
 reasons-at m s sheet i =
     record { holds = Bad-shape (lineAt sheet i); tells = told LineShape (suc i) 0 }
     ∷ record {
-        holds = (k : ℕ) × (bad-field (suc i) (lineAt sheet i) ≡ Some k);
-        tells = told FieldUnreadable (suc i) (valueOr (bad-field (suc i) (lineAt sheet i)) 0);
-      }
+      holds = (k : ℕ) × (bad-field (suc i) (lineAt sheet i) ≡ Some k);
+      tells = told FieldUnreadable (suc i) (valueOr (bad-field (suc i) (lineAt sheet i)) 0);
+    }
     ∷ record { holds = Goal-misplaced m s (targets sheet i) (length (acts sheet i)) (shown-at sheet i); tells = told GoalMisplaced (suc i) 0 }
     ∷ record { holds = End-misplaced (suc i ≡ lines-in sheet) (length (acts sheet i)) (shown-at sheet i); tells = told EndMisplaced (suc i) 0 }
     ∷ []

@@ -10,11 +10,11 @@ mod target;
 
 pub use field::number;
 pub use figure::tower_work;
+pub use read::read_sheet;
 pub use record::ActLine;
 pub use record::Letter;
 pub use record::Place;
 pub use record::Side;
-pub use read::read_sheet;
 pub use room::Room;
 pub use sheet::Sheet;
 pub use target::Target;

@@ -8,10 +8,10 @@ ghost use Rattle.std.specs.declared.option.Option.the-variants.{Some, None};
 ghost use Rattle.terms.specs.Refusals.{Answers, first-of};
 ghost use Rattle.sheet.specs.Lines.{word, wordIn, fields, plain-byte, printable, record-in};
 ghost use Rattle.sheet.specs.Kinds.{wordOf, fieldsOf, placeOf, line-tests};
+use crate::record::Record;
 use crate::record::act_in;
 use crate::record::end_in;
 use crate::record::goal_in;
-use crate::record::Record;
 use terms::Refusal;
 use terms::Rule;
 

@@ -15,12 +15,12 @@ ghost use Rattle.sheet.specs.Lines.{record-in};
 ghost use Rattle.sheet.specs.Reasons.{reading-reasons};
 ghost use Rattle.sheet.specs.View.{sheetOf, records-in};
 ghost use Rattle.sheet.specs.Reading.{rises, goal-fits, place-tests, goals-of, acts-of, Small, bad-sheet, lineAt, lines-in, reading-refusal};
-use crate::line::read_line;
-use crate::record::Record;
 use crate::ActLine;
 use crate::Room;
 use crate::Sheet;
 use crate::Target;
+use crate::line::read_line;
+use crate::record::Record;
 use ground::Ground;
 use std::alloc::AllocError;
 use std::alloc::Global;
@@ -56,7 +56,14 @@ fn is_rising(targets: &[Target], column: u32) -> bool
 }
 
 // Whether a target fits behind these targets and this number of actions.
-fn is_fit<G: Ground>(ground: &G, settings: &Settings, targets: &[Target], acts: usize, column: u32, height: u32) -> bool
+fn is_fit<G: Ground>(
+    ground: &G,
+    settings: &Settings,
+    targets: &[Target],
+    acts: usize,
+    column: u32,
+    height: u32,
+) -> bool
     ensures { λ r. ⌜ r ≡ goal-fits (G·Ground .meaning (now (ground .entry))) (settingsOf (now (settings .entry))) (now (targets .entry)) acts column height ⌝ }
 {
     if acts > 0 || !is_rising(targets, column) || column >= u32::from(ground.columns()) {
@@ -66,11 +73,20 @@ fn is_fit<G: Ground>(ground: &G, settings: &Settings, targets: &[Target], acts: 
 }
 
 // Why a record does not fit behind these targets and this number of actions, if it does not.
-fn misplaced<G: Ground>(ground: &G, settings: &Settings, targets: &[Target], acts: usize, number: u16, last: bool, shown: Record) -> Option<Refusal>
+fn misplaced<G: Ground>(
+    ground: &G,
+    settings: &Settings,
+    targets: &[Target],
+    acts: usize,
+    number: u16,
+    last: bool,
+    shown: Record,
+) -> Option<Refusal>
     ensures { λ r. ⌜ mapped toldOf r ≡ first-of (place-tests (G·Ground .meaning (now (ground .entry))) (settingsOf (now (settings .entry))) number last (now (targets .entry)) acts (Some shown)) ⌝ }
 {
     let rule = match shown {
-        Record::Goal { column, height } if !is_fit(ground, settings, targets, acts, column, height) => Rule::GoalMisplaced,
+        Record::Goal { column, height }
+            if !is_fit(ground, settings, targets, acts, column, height) => Rule::GoalMisplaced,
         Record::End { count } if last && count as usize == acts => return None,
         Record::End { .. } => Rule::EndMisplaced,
         _ if last => Rule::EndMisplaced,
@@ -89,14 +105,25 @@ fn add(targets: &mut Vec<Target>, acts: &mut Vec<ActLine>, shown: Record)
     ensures acts_room { λ _. ⌜ (vec-cap (now (acts .exit)) ≡ vec-cap (now (acts .entry))) × (vec-len (now (acts .exit)) ≤ vec-len (now (acts .entry)) + 1) ⌝ }
 {
     match shown {
-        Record::Goal { column, height } => targets.push_reserved(Target { column: column as u16, height: height as u8 }),
+        Record::Goal { column, height } => targets.push_reserved(Target {
+            column: column as u16,
+            height: height as u8,
+        }),
         Record::Act(act) => acts.push_reserved(act),
         Record::Note | Record::End { .. } => {}
     }
 }
 
 // Reads the line of a number and adds what it shows, or says why not.
-fn take_line<G: Ground>(ground: &G, settings: &Settings, bytes: &[u8], number: u16, last: bool, targets: &mut Vec<Target>, acts: &mut Vec<ActLine>) -> Result<(), Refusal>
+fn take_line<G: Ground>(
+    ground: &G,
+    settings: &Settings,
+    bytes: &[u8],
+    number: u16,
+    last: bool,
+    targets: &mut Vec<Target>,
+    acts: &mut Vec<ActLine>,
+) -> Result<(), Refusal>
     requires whole { ⌜ length (now bytes) ≡ 35 ⌝ }
     requires targets_fit { ⌜ vec-len (now targets) < vec-cap (now targets) ⌝ }
     requires acts_fit { ⌜ vec-len (now acts) < vec-cap (now acts) ⌝ }
@@ -108,7 +135,15 @@ fn take_line<G: Ground>(ground: &G, settings: &Settings, bytes: &[u8], number: u
         Ok(shown) => shown,
         Err(refusal) => return Err(refusal),
     };
-    if let Some(refusal) = misplaced(ground, settings, targets.as_slice(), acts.len(), number, last, shown) {
+    if let Some(refusal) = misplaced(
+        ground,
+        settings,
+        targets.as_slice(),
+        acts.len(),
+        number,
+        last,
+        shown,
+    ) {
         return Err(refusal);
     }
     add(targets, acts, shown);
@@ -136,20 +171,40 @@ fn cut(sheet: &[u8], i: usize) -> &[u8]
 }
 
 // Reads a sheet for a ground and settings: its records, or the earliest line's first broken rule.
-pub fn read_sheet<G: Ground>(ground: &G, settings: &Settings, sheet: &[u8], room: Room) -> Result<Sheet, Refusal>
+pub fn read_sheet<G: Ground>(
+    ground: &G,
+    settings: &Settings,
+    sheet: &[u8],
+    room: Room,
+) -> Result<Sheet, Refusal>
     ensures value { λ r. ⌜ Answers (reading-refusal (G·Ground .meaning (now (ground .entry))) (settingsOf (now (settings .entry))) (now (sheet .entry))) (λ s. sheetOf s ≡ records-in (now (sheet .entry))) r ⌝ }
     ensures words { λ r. ⌜ Settles (reading-reasons (G·Ground .meaning (now (ground .entry))) (settingsOf (now (settings .entry))) (now (sheet .entry))) (refusalIn r) ⌝ }
 {
     let Some(lines) = whole_lines(sheet) else {
         return Err(Refusal::plain(Rule::SheetShape));
     };
-    let Room { mut targets, mut acts } = room;
+    let Room {
+        mut targets,
+        mut acts,
+    } = room;
     for i in 0..lines {
         let number = i as u16 + 1;
-        match take_line(ground, settings, cut(sheet, i), number, i + 1 == lines, &mut targets, &mut acts) {
+        match take_line(
+            ground,
+            settings,
+            cut(sheet, i),
+            number,
+            i + 1 == lines,
+            &mut targets,
+            &mut acts,
+        ) {
             Ok(()) => {}
             Err(refusal) => return Err(refusal),
         }
     }
-    Ok(Sheet { targets, acts, lines: lines as u16 })
+    Ok(Sheet {
+        targets,
+        acts,
+        lines: lines as u16,
+    })
 }

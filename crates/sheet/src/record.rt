@@ -112,7 +112,21 @@ pub(crate) fn act_in(line: u16, fields: &[u8]) -> Result<Record, u16>
     let Some(to_height) = to_place(&fields[27..30]) else {
         return Err(8);
     };
-    let from = Side { column: from_column, height: from_height };
-    let to = Side { column: to_column, height: to_height };
-    Ok(Record::Act(ActLine { line, start, end, from, carry, letter, to }))
+    let from = Side {
+        column: from_column,
+        height: from_height,
+    };
+    let to = Side {
+        column: to_column,
+        height: to_height,
+    };
+    Ok(Record::Act(ActLine {
+        line,
+        start,
+        end,
+        from,
+        carry,
+        letter,
+        to,
+    }))
 }

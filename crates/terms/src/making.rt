@@ -3,7 +3,7 @@ ghost use mathlib.Core.Path.{_≡_};
 ghost use Prim.Native.Nat.{_≤_};
 ghost use Rattle.std.specs.Options.{mapped};
 ghost use Rattle.terms.specs.Refusals.{Answers, Settles, refusalIn};
-ghost use Rattle.terms.specs.Durations.{durationSet, durationOf};
+ghost use Rattle.terms.specs.Durations.{durationSet, durationOf, times};
 ghost use Rattle.terms.specs.View.{settingsOf, timesOf};
 ghost use Rattle.terms.specs.Ranges.{settings-refusal, settings-reasons, settings-from};
 use crate::Durations;
@@ -12,15 +12,31 @@ use crate::Rule;
 use crate::Settings;
 use crate::Work;
 
+// Durations of entry, leave, move with a block, move without, pick up and deliver.
+fn durations(entry: u8, leave: u8, loaded: u8, empty: u8, pickup: u8, deliver: u8) -> Durations
+    requires { ⌜ 1 ≤ entry ⌝ ∗ ⌜ 1 ≤ leave ⌝ ∗ ⌜ 1 ≤ loaded ⌝ }
+    requires { ⌜ 1 ≤ empty ⌝ ∗ ⌜ 1 ≤ pickup ⌝ ∗ ⌜ 1 ≤ deliver ⌝ }
+    ensures { λ r. ⌜ timesOf r ≡ times entry leave loaded empty pickup deliver ⌝ }
+{
+    Durations {
+        entry,
+        leave,
+        loaded,
+        empty,
+        pickup,
+        deliver,
+    }
+}
+
 // The duration set of a number, if there is one.
 fn duration_set(number: u32) -> Option<Durations>
     ensures { λ r. ⌜ mapped timesOf r ≡ durationSet number ⌝ }
 {
     match number {
-        0 => Some(Durations { entry: 1, leave: 1, loaded: 1, empty: 1, pickup: 1, deliver: 1 }),
-        1 => Some(Durations { entry: 2, leave: 1, loaded: 1, empty: 1, pickup: 2, deliver: 2 }),
-        2 => Some(Durations { entry: 3, leave: 2, loaded: 3, empty: 1, pickup: 3, deliver: 3 }),
-        3 => Some(Durations { entry: 3, leave: 3, loaded: 3, empty: 2, pickup: 2, deliver: 3 }),
+        0 => Some(durations(1, 1, 1, 1, 1, 1)),
+        1 => Some(durations(2, 1, 1, 1, 2, 2)),
+        2 => Some(durations(3, 2, 3, 1, 3, 3)),
+        3 => Some(durations(3, 3, 3, 2, 2, 3)),
         _ => None,
     }
 }
@@ -37,7 +53,11 @@ impl Settings {
         if levels < 1 || levels > 16 || robots < 1 || robots > 64 {
             return Err(Refusal::plain(Rule::SettingsRange));
         }
-        Ok(Settings { levels: levels as u8, robots: robots as u8, durations })
+        Ok(Settings {
+            levels: levels as u8,
+            robots: robots as u8,
+            durations,
+        })
     }
 
     // How many levels there are: heights are below this.

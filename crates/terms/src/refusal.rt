@@ -134,7 +134,11 @@ impl Refusal {
     pub fn plain(rule: Rule) -> Refusal
         ensures { λ r. ⌜ toldOf r ≡ told rule 0 0 ⌝ }
     {
-        Refusal { rule, line: 0, detail: 0 }
+        Refusal {
+            rule,
+            line: 0,
+            detail: 0,
+        }
     }
 
     // A refusal of a line of a sheet.

@@ -12,11 +12,12 @@ more old new was bs i h e f =
     f ∙ ap (λ (l : List ℕ). l ++ getD bs i 0 ∷ []) e ∙ append-assoc old (take i bs) (getD bs i 0 ∷ []) ∙ ap (λ (l : List ℕ). old ++ l) (sym (take-more bs i 0 h))
 
 pub loop-b-again : need.loop-b-again
-loop-b-again c =
-    (more (vec-items (c .args .text .now)) (vec-items (c .push-reserved .last .self)) (vec-items (c .loop-b .text)) (c .args .bytes .now) (c .loop-b .b-index) (c .loop-b-test .taken) (c .loop-b .inv .0)
-    (c .push-reserved .ensures .items),
-    c .push-reserved .ensures .capacity ∙ c .loop-b .inv .1,
-    omega arith)
+loop-b-again c = (
+  more (vec-items (c .args .text .now)) (vec-items (c .push-reserved .last .self)) (vec-items (c .loop-b .text)) (c .args .bytes .now) (c .loop-b .b-index) (c .loop-b-test .taken) (c .loop-b .inv .0)
+      (c .push-reserved .ensures .items),
+  c .push-reserved .ensures .capacity ∙ c .loop-b .inv .1,
+  omega arith,
+)
 
 pub returns : need.returns
 returns c =

@@ -29,10 +29,12 @@ loop-rest-again c = (passed (c .loop-rest .rest .now) (omega (arith, ltb-false))
 
 pub returns-in-rest : need.returns-in-rest
 returns-in-rest c = record {
-    value = sym (empty (c .loop-rest .rest .now) (omega (arith, ltb-true))) ∙ c .loop-rest .inv .0;
-    bound = omega arith }
+  value = sym (empty (c .loop-rest .rest .now) (omega (arith, ltb-true))) ∙ c .loop-rest .inv .0;
+  bound = omega arith;
+}
 
 pub returns-in-rest·2 : need.returns-in-rest·2
 returns-in-rest·2 c = record {
-    value = sym (stays (c .loop-rest .rest .now) (λ e. omega arith)) ∙ c .loop-rest .inv .0;
-    bound = omega arith }
+  value = sym (stays (c .loop-rest .rest .now) (λ e. omega arith)) ∙ c .loop-rest .inv .0;
+  bound = omega arith;
+}

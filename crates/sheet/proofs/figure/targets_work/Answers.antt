@@ -13,9 +13,10 @@ more : (ts : List Target) (i sum w : ℕ) (d : Target) → i < length ts → sum
 more ts i sum w d h e f = let s = sumBy-more (λ (t : Target). t .height * t .height) ts i d h in cc
 
 pub loop-target-again : need.loop-target-again
-loop-target-again c =
-    (more (c .args .targets .now) (c .loop-target .target-index) (c .loop-target .sum) (c .from-sum .result) _ (c .loop-target-test .taken) (c .loop-target .inv .0) (c .from-sum .ensures ∙ c .tower-work .ensures),
-    omega arith)
+loop-target-again c = (
+  more (c .args .targets .now) (c .loop-target .target-index) (c .loop-target .sum) (c .from-sum .result) _ (c .loop-target-test .taken) (c .loop-target .inv .0) (c .from-sum .ensures ∙ c .tower-work .ensures),
+  omega arith,
+)
 
 pub returns : need.returns
 returns c = c .loop-target .inv .0 ∙ ap work (take-all (c .loop-target .target-index) (c .args .targets .now) (c .loop-target-test .left))

@@ -16,4 +16,4 @@ Inv-loop-i g l =
     (1500 ≤ vec-cap (l .targets)) ×
     (1500 ≤ vec-cap (l .acts)) ×
     (first-of (from-on (tests-at (g .G·Ground .meaning (l .ground)) (settingsOf (l .settings)) (l .sheet)) (l .i) (lines-in (l .sheet) - l .i))
-      ≡ first-of (from-on (tests-at (g .G·Ground .meaning (l .ground)) (settingsOf (l .settings)) (l .sheet)) 0 (lines-in (l .sheet))))
+    ≡ first-of (from-on (tests-at (g .G·Ground .meaning (l .ground)) (settingsOf (l .settings)) (l .sheet)) 0 (lines-in (l .sheet))))

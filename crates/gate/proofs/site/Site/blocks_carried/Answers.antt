@@ -1,5 +1,4 @@
 use mathlib.Core.Path.{_≡_, sym, ap, _∙_}
-use mathlib.Core.Bool.{true, false}
 use Prim.Native.Nat.{ℕ}
 use native.Mathlib.Omega.{arith}
 use Rattle.std.specs.Of.Vec.{vec-items}
@@ -17,6 +16,6 @@ loop-column-again g c =
     let more = sum-more f (c .loop-column .column) in
     let is : c .has-block .result ≡ carries (state-at xs (c .loop-column .column)) = c .has-block .ensures ∙ ap (λ (x : Column). carries (x .state)) (c .look .ensures) in
     elim (c .if-has-block .came) [
-      | then-has-block w ↦ (omega (arith, w .count-is), omega (arith, w .count-is, more, c .loop-column .inv .1, ap one-if (sym is ∙ w .if-has-block .taken)))
-      | else-has-block w ↦ (omega (arith, w .count-is), omega (arith, w .count-is, more, c .loop-column .inv .1, ap one-if (sym is ∙ w .if-has-block .left)))
+      | then-has-block w ↦ (omega (arith, w .carried-is), omega (arith, w .carried-is, more, c .loop-column .inv .1, ap one-if (sym is ∙ w .if-has-block .taken)))
+      | else-has-block w ↦ (omega (arith, w .carried-is), omega (arith, w .carried-is, more, c .loop-column .inv .1, ap one-if (sym is ∙ w .if-has-block .left)))
     ]

@@ -6,4 +6,4 @@ use Rattle.gate.specs.Scene.{sum-below, one-if, state-at}
 use Rattle.gate.proofs.site.Site.blocks_carried.Given as given
 
 abbrev pub Inv-loop-column : given.InvT-loop-column
-Inv-loop-column g l = (l .count ≤ l .column) × (l .count ≡ sum-below (λ c. one-if (carries (state-at (vec-items (l .self .columns)) c))) (l .column))
+Inv-loop-column g l = (l .carried ≤ l .column) × (l .carried ≡ sum-below (λ c. one-if (carries (state-at (vec-items (l .self .columns)) c))) (l .column))

@@ -1,5 +1,4 @@
 use mathlib.Core.Path.{_≡_, sym, ap, _∙_}
-use mathlib.Core.Bool.{true, false}
 use Prim.Native.Nat.{ℕ}
 use native.Mathlib.Omega.{arith}
 use Rattle.std.specs.Of.Vec.{vec-items}
@@ -17,6 +16,6 @@ loop-column-again g c =
     let more = sum-more f (c .loop-column .column) in
     let is : c .has-robot .result ≡ robot (state-at xs (c .loop-column .column)) = c .has-robot .ensures ∙ ap (λ (x : Column). robot (x .state)) (c .look .ensures) in
     elim (c .if-has-robot .came) [
-      | then-has-robot w ↦ (omega (arith, w .count-is), omega (arith, w .count-is, more, c .loop-column .inv .1, ap one-if (sym is ∙ w .if-has-robot .taken)))
-      | else-has-robot w ↦ (omega (arith, w .count-is), omega (arith, w .count-is, more, c .loop-column .inv .1, ap one-if (sym is ∙ w .if-has-robot .left)))
+      | then-has-robot w ↦ (omega (arith, w .robots-is), omega (arith, w .robots-is, more, c .loop-column .inv .1, ap one-if (sym is ∙ w .if-has-robot .taken)))
+      | else-has-robot w ↦ (omega (arith, w .robots-is), omega (arith, w .robots-is, more, c .loop-column .inv .1, ap one-if (sym is ∙ w .if-has-robot .left)))
     ]

@@ -6,4 +6,4 @@ use Rattle.gate.specs.Scene.{sum-below, one-if, state-at}
 use Rattle.gate.proofs.site.Site.robots.Given as given
 
 abbrev pub Inv-loop-column : given.InvT-loop-column
-Inv-loop-column g l = (l .count ≤ l .column) × (l .count ≡ sum-below (λ c. one-if (robot (state-at (vec-items (l .self .columns)) c))) (l .column))
+Inv-loop-column g l = (l .robots ≤ l .column) × (l .robots ≡ sum-below (λ c. one-if (robot (state-at (vec-items (l .self .columns)) c))) (l .column))

@@ -1,0 +1,16 @@
+pub mod Steps
+pub mod Single
+pub mod Lowest
+pub mod Chains
+pub mod Left
+pub mod Tested
+pub mod Most
+pub mod Reasoned
+pub mod Silence
+pub mod Exact
+pub mod Ended
+pub mod Settling
+pub mod Through
+pub mod Timely
+pub mod Verdict
+pub mod Figured

@@ -1,0 +1,4 @@
+pub mod Runs
+pub mod Obeying
+pub mod Lasting
+pub mod Undertaking
