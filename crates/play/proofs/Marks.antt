@@ -11,8 +11,6 @@ use lib.Seq.{getD-set-same, getD-set-other}
 use Rattle.std.proofs.shelf.Counted.{getD-map-counting, length-map-counting}
 use Rattle.std.proofs.shelf.Lists.{getD-past}
 use Rattle.std.proofs.shelf.Tests.{cases-eq, cases-lt, cond-false, cond-true, eq-eqb, le-ltb, lt-ltb, ne-eqb}
-use Rattle.terms.specs.declared.work.Work.{Work}
-use Rattle.terms.specs.declared.work.Work.the-variants.{Entry, Leave, Wait, Move, PickUp, Deliver}
 use Rattle.ground.specs.Meaning.{Meaning}
 use Rattle.gate.specs.declared.call.Call.the-variants.{Tick}
 use Rattle.gate.specs.declared.column.Column.{Column}
@@ -58,15 +56,6 @@ module _ (m : Meaning) {xs : Columns} {ms : List ℕ} (size : length xs ≡ m .c
               ∙ sym (past (tick-all xs) c (omega (arith, length-tick xs)))
         ];
       }
-
--- the marks once a work has begun: its column o is changing
-abbrev pub marks-then : Work → List ℕ → ℕ → List ℕ
-marks-then Entry ms o = ms
-marks-then Leave ms o = ms
-marks-then Wait ms o = ms
-marks-then Move ms o = ms
-marks-then PickUp ms o = set ms o 1
-marks-then Deliver ms o = set ms o 1
 
 module _ {a : Action} {t : ℕ} {xs ys : Columns} {ms : List ℕ} (mk : Marked xs ms) (pl : Placed a t xs ys)
     (still : (c : ℕ) → Touches a c → changes (state-at xs c) ≡ false) (few : a .to < 256) where
