@@ -5,7 +5,7 @@ use mathlib.Core.Logic.{_⊎_, inl, inr}
 use Prim.Native.Nat.{ℕ, zero, suc, _<_}
 use native.Mathlib.Omega.{arith}
 use lib.Dec.{eqb}
-use lib.ListN.{length, getD}
+use lib.ListN.{getD}
 use Rattle.std.specs.Orderings.{Decides}
 use Rattle.std.proofs.shelf.Lists.{getD-past}
 use Rattle.std.proofs.shelf.Tests.{both-ways, cases-bool, cases-eq, cases-lt, false≢true, ne-eqb, not-from-false}
@@ -16,7 +16,7 @@ use Rattle.gate.specs.declared.column.State.{State}
 use Rattle.gate.specs.declared.column.State.the-variants.{Free, Standing, Busy}
 use Rattle.gate.specs.Column.{fresh, held, robot}
 use Rattle.gate.specs.Scene.{Scene, blocks-standing, height-at, one-if, robots, state-at, sum-below}
-use Rattle.play.specs.Play.{Blank, Fresh, is-fresh}
+use Rattle.play.specs.Play.{Blank, Fresh, Kept, is-fresh}
 
 -- a sum is 0 exactly where every part is
 all-zero : (f : ℕ → ℕ) (n : ℕ) → sum-below f n ≡ 0 → (c : ℕ) → c < n → f c ≡ 0
@@ -46,13 +46,6 @@ free-or-not : (z : State) → (z ≡ Free) ⊎ (z ≡ Free → ⊥)
 free-or-not Free = inl refl
 free-or-not (Standing b) = inr (λ e. false≢true (sym (ap held e)))
 free-or-not (Busy p n) = inr (λ e. false≢true (sym (ap held e)))
-
--- a site as every list of calls leaves it: what is held or marked, a robot holds or changes
-pub record Kept (v : Scene) : Type 0 where
-  pub size : length (v .columns) ≡ v .meaning .columns
-  pub room : length (v .marks) ≡ 256
-  pub holder : (c : ℕ) → (state-at (v .columns) c ≡ Free → ⊥) → (r : ℕ) × (robot (state-at (v .columns) r) ≡ true)
-  pub changer : (c : ℕ) → marked (v .marks) c ≡ true → (r : ℕ) × (robot (state-at (v .columns) r) ≡ true)
 
 module _ (v : Scene) (kept : Kept v) (fr : Fresh v) where
   past : (c : ℕ) → (c < v .meaning .columns → ⊥) → getD (v .columns) c fresh ≡ fresh

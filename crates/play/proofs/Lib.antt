@@ -13,5 +13,6 @@ pub mod Ready
 pub mod Grants
 pub mod Playing
 pub mod Freshness
+pub mod Unfolding
 pub mod Turns
 pub mod Standing
