@@ -13,6 +13,5 @@ pub mod Ready
 pub mod Grants
 pub mod Playing
 pub mod Freshness
-pub mod Unfolding
 pub mod Turns
 pub mod Standing

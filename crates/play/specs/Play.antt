@@ -1,17 +1,16 @@
 -- Playing a list of actions: by the gate's own definitions, and as a relation. Assumes nothing.
 use mathlib.Core.Path.{_≡_}
-use mathlib.Core.Bool.{Bool, true, false, cond, _&&_}
-use mathlib.Core.List.{List, [], _∷_, _++_}
+use mathlib.Core.Bool.{Bool, false, cond, _&&_}
+use mathlib.Core.List.{List, [], _∷_}
 use Prim.Native.Nat.{ℕ, zero, suc, _-_, _<_, max}
 use lib.Dec.{eqb}
-use lib.ListN.{length, getD, replicate}
+use lib.ListN.{length, getD}
 use Rattle.std.specs.declared.option.Option.{Option}
 use Rattle.std.specs.declared.option.Option.the-variants.{Some, None}
 use Rattle.terms.specs.Refusals.{Told, told}
 use Rattle.terms.specs.declared.refusal.Rule.the-variants.{NotFresh}
 use Rattle.terms.specs.declared.work.Work.{Work}
 use Rattle.terms.specs.declared.work.Work.the-variants.{Entry, Leave as LeaveWork, Wait, Move as MoveWork, PickUp, Deliver}
-use Rattle.ways.specs.View.{marked}
 use Rattle.gate.specs.declared.call.Call.{Call}
 use Rattle.gate.specs.declared.call.Call.the-variants.{Enter, Move, Lay, Lift, Leave, Tick}
 use Rattle.gate.specs.declared.column.State.{State}
@@ -102,25 +101,6 @@ pub data Played : List Action → ℕ → Scene → Option Told → Scene → Ty
   waited : {a : Action} {rest : List Action} {now : ℕ} {v w : Scene} {answer : Option Told}
       → call-of a ≡ None → Played rest (a .start) (ready a now v) answer w → Played (a ∷ rest) now v answer w
 
--- ---- the calls that a play comes to, ticks among them, a refused one last
-
-abbrev pub asked : Option Call → List Call
-asked None = []
-asked (Some k) = k ∷ []
-
--- nothing is called after a refusal
-abbrev pub while-granted : Option Told → List Call → List Call
-while-granted None calls = calls
-while-granted (Some t) calls = []
-
-abbrev pub calls-of-play : List Action → ℕ → Scene → List Call
-calls-of-play [] now v = replicate (longest (v .columns) 256) Tick
-calls-of-play (a ∷ rest) now v =
-    replicate (a .start - now) Tick
-    ++ (asked (call-of a) ++ while-granted (refusal-of (ready a now v) (call-of a)) (calls-of-play rest (a .start) (called (ready a now v) (call-of a))))
-
--- ---- what is true of sites
-
 -- ticking until nothing runs ends: nothing runs then, and before the last tick something does
 pub record Settles (v : Scene) : Type 0 where
   pub quiet : Quiet (settled v)
@@ -141,13 +121,6 @@ is-fresh v = eqb (robots (v .meaning) (v .columns)) 0 && eqb (blocks-standing (v
 pub record Fresh (v : Scene) : Type 0 where
   pub no-robot : (c : ℕ) → c < v .meaning .columns → robot (state-at (v .columns) c) ≡ false
   pub flat : (c : ℕ) → c < v .meaning .columns → height-at (v .columns) c ≡ 0
-
--- a site as every list of calls leaves it: what is held or marked, some robot holds or changes
-pub record Kept (v : Scene) : Type 0 where
-  pub size : length (v .columns) ≡ v .meaning .columns
-  pub room : length (v .marks) ≡ 256
-  pub holder : (c : ℕ) → (state-at (v .columns) c ≡ Free → ⊥) → (r : ℕ) × (robot (state-at (v .columns) r) ≡ true)
-  pub changer : (c : ℕ) → marked (v .marks) c ≡ true → (r : ℕ) × (robot (state-at (v .columns) r) ≡ true)
 
 -- play as it is called: only a fresh site is played on, any other stays as it is
 abbrev pub play-on : List Action → Scene → Outcome

@@ -1,22 +1,20 @@
 -- What comes of playing a plan that keeps the rules, on a site as it opens. Assumes nothing.
 use mathlib.Core.Path.{_≡_}
-use mathlib.Core.List.{List, [], _∷_}
+use mathlib.Core.List.{List}
 use Prim.Native.Nat.{ℕ, _≤_, _<_}
 use lib.ListN.{length}
 use Rattle.std.specs.Orderings.{Decides}
 use Rattle.std.specs.declared.option.Option.the-variants.{Some, None}
 use Rattle.terms.specs.Durations.{Site-settings}
 use Rattle.terms.specs.Refusals.{told}
-use Rattle.terms.specs.declared.refusal.Rule.the-variants.{NoWayHome, NotFresh}
+use Rattle.terms.specs.declared.refusal.Rule.the-variants.{NoWayHome}
 use Rattle.ground.specs.Meaning.{Lawful, Meaning}
-use Rattle.gate.specs.declared.call.Call.{Call}
 use Rattle.gate.specs.declared.column.State.the-variants.{Free}
-use Rattle.gate.specs.Gate.{step}
 use Rattle.gate.specs.Scene.{Scene, height-at, opened, state-at}
 use Rattle.plan.specs.Judged.{Timed}
 use Rattle.plan.specs.Plan.{Action, line}
 use Rattle.plan.specs.Rules.{Rules}
-use Rattle.play.specs.Play.{Blank, Fresh, Kept, Outcome, Played, Settles, calls-of-play, is-fresh, play, play-on}
+use Rattle.play.specs.Play.{Blank, Fresh, Outcome, Played, Settles, is-fresh, play}
 use Rattle.play.specs.Shown.{Described}
 use Rattle.play.specs.Strands.{Strands, Strands-lowest}
 
@@ -45,13 +43,6 @@ pub record Plays-stand : Type 0 where
   -- play is what its relation says, of every list of actions
   pub played : (actions : List Action) (now : ℕ) (v : Scene) → length (v .columns) ≤ 256
       → Played actions now v (play actions now v .answer) (play actions now v .site)
-  -- the site that it leaves is the one after the calls that it comes to, one after the other
-  pub unfolds : (run : Scene → List Call → Scene) → ((v : Scene) → run v [] ≡ v) → ((v : Scene) (k : Call) (ks : List Call) → run v (k ∷ ks) ≡ run (step v k) ks)
-      → (actions : List Action) (now : ℕ) (v : Scene) → play actions now v .site ≡ run v (calls-of-play actions now v)
-  -- a site that is not fresh is refused, and stays as it is
-  pub refuses : (actions : List Action) (v : Scene) → (Fresh v → ⊥) → play-on actions v ≡ record { answer = Some (told NotFresh 0 0); site = v }
-  -- and this comes of a plan that keeps the rules, on a site as it opens and on any that is fresh
+  -- and this comes of a plan that keeps the rules
   pub comes : (v : Scene) (plan : List Action) (targets : ℕ → ℕ) → Lawful (v .meaning) → Usable (v .settings) → Rules (v .meaning) (v .settings) plan targets
       → Blank v → Comes (v .meaning) (v .settings) plan targets (play plan 0 v)
-  pub comes-on : (v : Scene) (plan : List Action) (targets : ℕ → ℕ) → Lawful (v .meaning) → Usable (v .settings) → Rules (v .meaning) (v .settings) plan targets
-      → Kept v → Fresh v → Comes (v .meaning) (v .settings) plan targets (play-on plan v)
