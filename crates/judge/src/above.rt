@@ -26,7 +26,7 @@ pub(crate) fn running_at(actions: &[Action], time: u32) -> usize
 {
     let mut running = 0;
     for action in actions {
-        if action.runs(time) {
+        if action.span.holds(time) {
             running += 1;
         }
     }
