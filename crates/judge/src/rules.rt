@@ -1,6 +1,5 @@
 // The rules of an action against the actions above it.
 ghost use mathlib.Core.Path.{_≡_};
-ghost use mathlib.Core.Bool.{not};
 ghost use Prim.Native.Nat.{_<_};
 ghost use lib.Dec.{leb, ltb};
 ghost use Rattle.std.specs.Options.{mapped};

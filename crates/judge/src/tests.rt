@@ -5,23 +5,71 @@ use ground::SquareGround;
 use std::test::*;
 use terms::Settings;
 
-// The number of the first broken rule, its line and its detail; where there is none the makespan, the costs and the most robots.
-fn told(rt: LibcRuntime, set: u32, sheet: &[u8]) -> Result<(u16, u64, u64, u64), Fail> {
+const GOAL: &[u8; 34] = b"GOAL     4     1                  ";
+const NOTE: &[u8; 34] = b"NOTE                              ";
+const ENTRY: &[u8; 34] = b"ACT      0     1   S  S 1 M   1  0";
+const LAY: &[u8; 34] = b"ACT      1     2   1  0 1 D   4  0";
+const LEAVE: &[u8; 34] = b"ACT      2     3   1  0 0 M   E  E";
+const END: &[u8; 34] = b"END      3                        ";
+
+// Of four lines and END: the number, the line and the detail of the first broken rule, or 0, the makespan and the costs.
+fn told(rt: LibcRuntime, a: &[u8; 34], b: &[u8; 34], c: &[u8; 34], d: &[u8; 34]) -> Result<(u16, u32, u64), Fail> {
+    let mut sheet = [b'\n'; 175];
+    sheet[0..34].copy_from_slice(a);
+    sheet[35..69].copy_from_slice(b);
+    sheet[70..104].copy_from_slice(c);
+    sheet[105..139].copy_from_slice(d);
+    sheet[140..174].copy_from_slice(END);
     let Ok(ground) = Square::new(3, 3) else {
-        return Err(Fail::new("3 by 3 is refused"));
+        return Err(Fail::new("the ground is refused"));
     };
-    let Ok(settings) = Settings::new(2, 1, set) else {
+    let Ok(settings) = Settings::new(2, 1, 0) else {
         return Err(Fail::new("the settings are refused"));
     };
-    let room = Room::new(rt.alloc())?;
-    match judge(&ground, &settings, sheet, room) {
-        Ok(plan) => Ok((0, plan.makespan() as u64, plan.costs(), plan.most() as u64)),
-        Err(refusal) => Ok((refusal.rule.number(), refusal.line as u64, refusal.detail as u64, 0)),
+    match judge(&ground, &settings, &sheet, Room::new(rt.alloc())?) {
+        Ok(plan) => Ok((0, plan.makespan(), plan.costs())),
+        Err(refusal) => Ok((refusal.rule.number(), refusal.line as u32, refusal.detail as u64)),
     }
 }
 
 #[test]
-fn lines(rt: LibcRuntime) -> Result<(), Fail> {
-    check_eq(told(rt, 0, b"GOAL     4     1                  \nACT      0     1   S  S 1 M   1  0\nACT      1     2   1  0 1 D   4  0\nACT      2     3   1  0 0 M   E  E\nEND      3                        \n")?, (0, 3, 3, 1))?;
-    check_eq(told(rt, 0, b"END      0                        \n")?, (0, 0, 0, 0))
+fn accepted(rt: LibcRuntime) -> Result<(), Fail> {
+    check_eq(told(rt, GOAL, ENTRY, LAY, LEAVE)?, (0, 3, 3))?;
+    let entry = b"ACT      0     1   S  S 0 M   1  0";
+    let wait = b"ACT      1     2   1  0 0 M   1  0";
+    check_eq(told(rt, NOTE, entry, wait, LEAVE)?, (0, 3, 3))
+}
+
+#[test]
+fn line_rules(rt: LibcRuntime) -> Result<(), Fail> {
+    let empty = b"ACT      1     2   1  0 0 D   4  0";
+    check_eq(told(rt, GOAL, ENTRY, empty, LEAVE)?, (11, 3, 0))?;
+    let high = b"ACT      1     2   1  1 1 D   4  1";
+    check_eq(told(rt, GOAL, ENTRY, high, LEAVE)?, (12, 3, 0))?;
+    let climb = b"ACT      1     2   1  0 1 M   1  1";
+    check_eq(told(rt, GOAL, ENTRY, climb, LEAVE)?, (13, 3, 0))?;
+    let long = b"ACT      1     3   1  0 1 D   4  0";
+    check_eq(told(rt, GOAL, ENTRY, long, LEAVE)?, (14, 3, 0))
+}
+
+#[test]
+fn judge_rules(rt: LibcRuntime) -> Result<(), Fail> {
+    let early = b"ACT      0     1   1  0 0 M   E  E";
+    check_eq(told(rt, GOAL, ENTRY, LAY, early)?, (15, 4, 0))?;
+    let late = b"ACT      2     3   1  0 1 D   4  0";
+    check_eq(told(rt, GOAL, ENTRY, late, LEAVE)?, (16, 3, 1))?;
+    let high = b"ACT      2     3   1  1 0 M   E  E";
+    check_eq(told(rt, GOAL, ENTRY, LAY, high)?, (17, 4, 0))?;
+    check_eq(told(rt, GOAL, ENTRY, ENTRY, LEAVE)?, (18, 3, 2))?;
+    let loaded = b"ACT      2     3   1  0 1 M   E  E";
+    check_eq(told(rt, GOAL, ENTRY, LAY, loaded)?, (19, 4, 0))?;
+    let second = b"ACT      0     1   S  S 0 M   0  0";
+    check_eq(told(rt, GOAL, ENTRY, second, LEAVE)?, (20, 3, 0))
+}
+
+#[test]
+fn end_rules(rt: LibcRuntime) -> Result<(), Fail> {
+    let wait = b"ACT      2     3   1  0 0 M   1  0";
+    check_eq(told(rt, GOAL, ENTRY, LAY, wait)?, (21, 4, 0))?;
+    check_eq(told(rt, NOTE, ENTRY, LAY, LEAVE)?, (22, 5, 4))
 }

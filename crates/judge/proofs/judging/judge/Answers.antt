@@ -1,23 +1,21 @@
 -- Each way out is the refusal of its stage, those before it having passed.
-use mathlib.Core.Path.{_≡_, ap, sym, subst, _∙_}
+use mathlib.Core.Path.{_≡_, ap, sym, _∙_}
 use mathlib.Core.List.{List}
-use Prim.Native.Nat.{ℕ, _≤_}
+use Prim.Native.Nat.{ℕ}
 use native.Mathlib.Omega.{arith}
-use lib.ListN.{length}
 use Rattle.std.specs.Of.Vec.{vec-items}
-use Rattle.std.specs.declared.option.Option.the-variants.{Some, None}
 use Rattle.std.specs.declared.result.Result.the-variants.{Ok, Err}
 use Rattle.std.specs.Options.{mapped}
-use Rattle.terms.specs.Refusals.{Answers, first-of, toldOf}
+use Rattle.terms.specs.Refusals.{first-of, toldOf}
 use Rattle.terms.specs.View.{settingsOf}
 use Rattle.ground.specs.Meaning.{Meaning}
-use Rattle.sheet.specs.View.{Records, records-in, sheetOf}
+use Rattle.sheet.specs.View.{Records, records-in}
 use Rattle.sheet.specs.declared.record.ActLine.{ActLine}
 use Rattle.sheet.specs.declared.target.Target.{Target}
 use Rattle.plan.specs.Plan.{Action as Step}
 use Rattle.plan.specs.Rules.{plan-of, target-of}
 use Rattle.plan.specs.View.{planOf}
-use Rattle.judge.specs.Judging.{end-tests, judging-refusal}
+use Rattle.judge.specs.Judging.{end-tests}
 use Rattle.judge.specs.Verdict.{Accepts}
 use Rattle.judge.specs.View.{acceptanceOf}
 use Rattle.judge.specs.declared.accepted.Accepted.{Accepted}
