@@ -7,9 +7,9 @@ use lib.Dec.{ltb}
 use Rattle.std.specs.declared.option.Option.{Option}
 use Rattle.std.specs.declared.option.Option.the-variants.{Some, None}
 use Rattle.terms.specs.Durations.{Site-settings}
-use Rattle.terms.specs.Refusals.{Told, told, first-of}
+use Rattle.terms.specs.Refusals.{Told, told, first-of, or-else}
 use Rattle.terms.specs.declared.refusal.Rule.the-variants.{NoWayHome}
-use Rattle.terms.proofs.First.{or-else, first-append}
+use Rattle.terms.proofs.First.{first-append}
 use Rattle.std.proofs.shelf.Tests.{ltb-true, not-false, or-parts}
 use Rattle.ground.specs.Meaning.{Meaning}
 use Rattle.ways.proofs.Firsts.{none≢some}
