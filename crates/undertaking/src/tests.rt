@@ -3,6 +3,7 @@ use crate::answer::Answer;
 use crate::performing::make;
 use gate::Call;
 use gate::Next;
+use gate::Plot;
 use gate::Site;
 use ground::Ground;
 use ground::Listed;
@@ -71,7 +72,7 @@ fn obey<G: Ground>(site: &mut Site<G>, actions: u32) -> Result<(), Fail> {
 // Each refusal of each call, a move over two heights, the hill from which a lift would strand a robot, and the way home.
 #[test]
 fn on_a_square(rt: LibcRuntime) -> Result<(), Fail> {
-    let mut site = Site::open(rt.alloc(), square(3, 5)?, settings(3, 3, 0)?)?;
+    let mut site = Site::open(Plot::new(rt.alloc())?, square(3, 5)?, settings(3, 3, 0)?);
     let rows = [
         Row(Call::Recall, 32, 0, 0),
         Row(Call::Enter { column: 15, block: false }, 23, 0, 0),
@@ -149,7 +150,7 @@ fn on_a_row(rt: LibcRuntime) -> Result<(), Fail> {
     let Ok(row) = Listed::new(5, &[1, 0, 0, 0, 1], &[(0, 1), (1, 2), (2, 3), (3, 4)]) else {
         return Err(Fail::new("a row"));
     };
-    let mut site = Site::open(rt.alloc(), row, settings(2, 3, 1)?)?;
+    let mut site = Site::open(Plot::new(rt.alloc())?, row, settings(2, 3, 1)?);
     let rows = [
         Row(Call::Enter { column: 0, block: false }, 0, 0, 2),
         Row(Call::Move { from: 0, to: 1 }, 0, 0, 1),
@@ -169,7 +170,7 @@ fn on_a_row(rt: LibcRuntime) -> Result<(), Fail> {
 // A lay raises its column when it ends; a robot enters at the tick at which another has left.
 #[test]
 fn in_as_another_has_left(rt: LibcRuntime) -> Result<(), Fail> {
-    let mut site = Site::open(rt.alloc(), square(3, 3)?, settings(2, 1, 3)?)?;
+    let mut site = Site::open(Plot::new(rt.alloc())?, square(3, 3)?, settings(2, 1, 3)?);
     let rows = [
         Row(Call::Enter { column: 1, block: true }, 0, 0, 3),
         Row(Call::Lay { from: 1, to: 4 }, 0, 0, 2),
