@@ -1,0 +1,4 @@
+pub mod Unfolding
+pub mod Freshness
+pub mod Related
+pub mod Standing
