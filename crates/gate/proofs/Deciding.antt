@@ -1,7 +1,7 @@
 -- Each test of the gate decides its reason in words, so the first that holds decides the call. Assumes nothing.
 use mathlib.Core.Path.{_≡_, refl, sym, ap, subst, _∙_}
-use mathlib.Core.Bool.{Bool, true, false, not, _&&_, _||_}
-use mathlib.Core.Logic.{inl, inr, _⊎_}
+use mathlib.Core.Bool.{Bool, true, false, not, _||_}
+use mathlib.Core.Logic.{inl, inr}
 use Prim.Native.Nat.{ℕ, suc, _≤_, _<_}
 use native.Mathlib.Omega.{arith}
 use lib.Dec.{ltb, leb, eqb}
@@ -11,11 +11,11 @@ use Rattle.std.specs.declared.option.Option.{Option}
 use Rattle.std.specs.declared.option.Option.the-variants.{Some, None}
 use Rattle.std.proofs.shelf.Tests.{false≢true, true≢false, both-ways, leb-true, le-leb, cases-lt}
 use Rattle.std.proofs.shelf.Ways.{decides-and, decides-not, decides-ltb, decides-eqb, decides-like, tells}
-use Rattle.terms.specs.Refusals.{Told, told, first-of, Settles}
+use Rattle.terms.specs.Refusals.{Told}
 use Rattle.terms.proofs.First.{Decide, first-settles}
 use Rattle.ground.specs.Meaning.{Meaning, Lawful}
-use Rattle.ways.specs.Way.{Relief, Near, No-way}
-use Rattle.ways.specs.Table.{near, first-below, steps}
+use Rattle.ways.specs.Way.{Relief, No-way}
+use Rattle.ways.specs.Table.{near, steps}
 use Rattle.ways.proofs.Firsts.{first-some, first-there, first-decides}
 use Rattle.ways.proofs.Tests.{near-decides}
 use Rattle.ways.proofs.Exactness.{steps-home}
@@ -25,7 +25,7 @@ use Rattle.gate.specs.declared.column.State.{State}
 use Rattle.gate.specs.declared.column.State.the-variants.{Free, Standing, Busy}
 use Rattle.gate.specs.Column.{held, stands, robot, carries}
 use Rattle.gate.specs.Scene.{Scene, height-at, state-at, tried, robots}
-use Rattle.gate.specs.Gate.{off, stranded-by, lowest-stranded, tests, refusal, settle, grant, step}
+use Rattle.gate.specs.Gate.{off, stranded-by, lowest-stranded, tests, refusal, settle, grant}
 use Rattle.gate.specs.Words.{On-ground, Robot, Stranded, Lowest-stranded, reasons, Details, Decided, Performed}
 
 -- a part fails

@@ -1,12 +1,12 @@
 -- The search is handed slices; the ground lies as their columns and marks say. Assumes nothing.
 use mathlib.Core.Path.{_≡_, refl, sym, ap, _∙_}
-use mathlib.Core.Bool.{Bool, true, false, not, _&&_, _||_}
+use mathlib.Core.Bool.{false, not, _||_}
 use mathlib.Core.List.{List, map}
 use mathlib.Core.Logic.{inl, inr, _≢_}
 use Prim.Native.Nat.{ℕ, _<_}
 use native.Mathlib.Omega.{arith}
 use lib.Dec.{eqb}
-use lib.ListN.{length, set, getD}
+use lib.ListN.{length, set}
 use Rattle.std.specs.Options.{isSome}
 use Rattle.std.specs.declared.option.Option.{Option}
 use Rattle.std.specs.declared.option.Option.the-variants.{Some, None}
@@ -16,8 +16,8 @@ use Rattle.ground.specs.Meaning.{Meaning}
 use Rattle.ways.specs.Table.{first-below, steps}
 use Rattle.ways.specs.View.{heights-by, marked, relief-by}
 use Rattle.gate.specs.declared.column.Column.{Column}
-use Rattle.gate.specs.Column.{fresh, robot}
-use Rattle.gate.specs.Scene.{Columns, height-at, state-at, lying}
+use Rattle.gate.specs.Column.{fresh}
+use Rattle.gate.specs.Scene.{Columns, height-at, lying}
 use Rattle.gate.specs.Gate.{stranded-by, lowest-stranded}
 
 pub heights-read : (xs : Columns) (c : ℕ) → heights-by (λ (x : Column). x .height) xs c ≡ height-at xs c

@@ -1,31 +1,30 @@
 -- Recall names the right robot and the right action, where every robot has a way home. Assumes nothing.
 use mathlib.Core.Path.{_≡_, refl, sym, ap, subst, _∙_}
 use mathlib.Core.Bool.{Bool, true, false, cond}
-use mathlib.Core.Logic.{_⊎_, inl, inr}
-use Prim.Native.Nat.{ℕ, zero, suc, _≤_, _<_}
+use mathlib.Core.Logic.{inl, inr}
+use Prim.Native.Nat.{ℕ, zero, suc, _<_}
 use native.Mathlib.Omega.{arith}
 use Rattle.std.specs.Options.{valueOr}
 use Rattle.std.specs.declared.option.Option.{Option}
 use Rattle.std.specs.declared.option.Option.the-variants.{Some, None}
 use Rattle.std.specs.declared.result.Result.{Result}
-use Rattle.std.specs.declared.result.Result.the-variants.{Ok, Err}
-use Rattle.std.proofs.shelf.Tests.{cases-bool, both-ways, cond-true, cond-false, not-true}
+use Rattle.std.specs.declared.result.Result.the-variants.{Err}
+use Rattle.std.proofs.shelf.Tests.{cases-bool, both-ways, cond-true, cond-false}
 use Rattle.terms.specs.Refusals.{Told, told}
 use Rattle.terms.specs.declared.refusal.Rule.the-variants.{ActionRuns}
 use Rattle.ground.specs.Meaning.{Meaning, Lawful}
-use Rattle.ways.specs.Way.{Relief, Settled, Way, Fewest}
+use Rattle.ways.specs.Way.{Relief, Settled, Way}
 use Rattle.ways.specs.Way.Way.{home, onward}
 use Rattle.ways.specs.Table.{steps, nearer}
 use Rattle.ways.proofs.Firsts.{none≢some}
 use Rattle.ways.proofs.Exactness.{ways-exact, steps-home}
 use Rattle.ways.proofs.Nearest.{found}
-use Rattle.gate.specs.declared.order.Next.{Next}
-use Rattle.gate.specs.declared.order.Next.the-variants.{Leaves, Moves}
+use Rattle.gate.specs.declared.order.Next.the-variants.{Moves}
 use Rattle.gate.specs.declared.order.Order.{Order}
 use Rattle.gate.specs.Column.{robot, runs}
-use Rattle.gate.specs.Scene.{Columns, Scene, height-at, state-at, relief, sum-below}
+use Rattle.gate.specs.Scene.{Columns, Scene, height-at, state-at, relief}
 use Rattle.gate.specs.Words.{On-ground, Robot}
-use Rattle.gate.specs.Recall.{robot-steps, best-below, cost-of, toll, next-by, named, any-runs, recalled, recall, Running, Homeward, Does, Rightly-named, Recalled}
+use Rattle.gate.specs.Recall.{robot-steps, best-below, cost-of, toll, next-by, named, any-runs, recall, Running, Homeward, Does, Rightly-named, Recalled}
 use Rattle.gate.proofs.Below.{any-decides}
 use Rattle.gate.proofs.Sums.{sum-same}
 use Rattle.gate.proofs.Picks.{Chosen, chosen}

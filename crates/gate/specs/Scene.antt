@@ -13,7 +13,7 @@ use Rattle.gate.specs.declared.column.Column.{Column}
 use Rattle.gate.specs.declared.column.Part.{Part}
 use Rattle.gate.specs.declared.column.State.{State}
 use Rattle.gate.specs.declared.column.State.the-variants.{Busy}
-use Rattle.gate.specs.Column.{column, fresh, facing, robot, carries, changes, runs, goes-out, ticked}
+use Rattle.gate.specs.Column.{column, fresh, facing, robot, carries, changes, goes-out, ticked}
 
 abbrev pub Columns : Type 0
 Columns = List Column

@@ -4,11 +4,10 @@ use mathlib.Core.Bool.{Bool, true, false}
 use mathlib.Core.List.{List, [], _∷_}
 use Prim.Native.Nat.{ℕ, suc, _≤_, _<_}
 use Rattle.std.specs.declared.option.Option.{Option}
-use Rattle.std.specs.declared.option.Option.the-variants.{Some, None}
+use Rattle.std.specs.declared.option.Option.the-variants.{Some}
 use Rattle.terms.specs.Refusals.{Reason, Settles, Told, told}
 use Rattle.terms.specs.declared.refusal.Rule.{Rule}
 use Rattle.terms.specs.declared.refusal.Rule.the-variants.{NoColumn, NoStandingRobot, WrongLoad, NoLink, ColumnHeld, WrongHeights, SiteFull, NoWayHome}
-use Rattle.ground.specs.Meaning.{Meaning}
 use Rattle.ways.specs.Way.{Near, No-way}
 use Rattle.gate.specs.declared.call.Call.{Call}
 use Rattle.gate.specs.declared.call.Call.the-variants.{Enter, Move, Lay, Lift, Leave, Tick, Recall}

@@ -7,7 +7,6 @@ ghost use Rattle.terms.specs.View.{settingsOf};
 ghost use Rattle.gate.specs.declared.call.Call.the-variants.{Enter, Move, Lay, Lift, Leave, Tick};
 ghost use Rattle.gate.specs.declared.column.State.the-variants.{Busy};
 ghost use Rattle.gate.specs.Scene.{opened, put, tick-all, mark-of, renewed-marks, with-columns};
-ghost use Rattle.gate.specs.Gate.{step};
 ghost use Rattle.gate.specs.Words.{Performed};
 ghost use Rattle.gate.specs.View.{sceneOf};
 use crate::column::Column;

@@ -6,7 +6,7 @@ ghost use lib.Dec.{eqb};
 ghost use lib.ListN.{length, set};
 ghost use Rattle.std.specs.Options.{isSome};
 ghost use Rattle.ways.specs.View.{marked, stepsIn};
-ghost use Rattle.gate.specs.Scene.{height-at, lying};
+ghost use Rattle.gate.specs.Scene.{lying};
 ghost use Rattle.gate.specs.Gate.{stranded-by, lowest-stranded};
 use crate::column::Column;
 use crate::column::ColumnTall;

@@ -30,10 +30,13 @@ at-opened zero c = refl
 at-opened (suc n) zero = refl
 at-opened (suc n) (suc c) = at-opened n c
 
-pub longest-is : (xs : Columns) (c : ℕ) → left (state-at xs c) ≤ longest xs
-longest-is [] c = omega arith
-longest-is (x ∷ xs) zero = omega arith
-longest-is (x ∷ xs) (suc c) = let ih = longest-is xs c in omega arith
+pub longest-is : (xs : Columns) (n c : ℕ) → c < n → left (state-at xs c) ≤ longest xs n
+unfolding longest
+longest-is xs zero c l = absurd (omega arith)
+longest-is xs (suc n) c l = elim (cases-eq c n) [
+  | inl e ↦ omega (arith, ap (λ (x : ℕ). left (state-at xs x)) e)
+  | inr o ↦ omega (arith, longest-is xs n c (omega arith))
+]
 
 pub put-height : (xs : Columns) (c : ℕ) (z : State) (d : ℕ) → height-in (put xs c z) d ≡ height-in xs d
 put-height [] c z d = refl

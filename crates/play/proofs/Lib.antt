@@ -12,4 +12,6 @@ pub mod Readings
 pub mod Ready
 pub mod Grants
 pub mod Playing
+pub mod Freshness
+pub mod Turns
 pub mod Standing

@@ -11,13 +11,13 @@ use lib.Seq.{getD-set-same, getD-set-other}
 use Rattle.std.proofs.shelf.Counted.{getD-map-counting, length-map-counting}
 use Rattle.std.proofs.shelf.Lists.{getD-past}
 use Rattle.std.proofs.shelf.Tests.{cases-eq, cases-lt, cond-false, cond-true, eq-eqb, le-ltb, lt-ltb, ne-eqb}
-use Rattle.terms.specs.declared.work.Work.{Work}
-use Rattle.terms.specs.declared.work.Work.the-variants.{Entry, Leave, Wait, Move, PickUp, Deliver}
 use Rattle.ground.specs.Meaning.{Meaning}
+use Rattle.gate.specs.declared.call.Call.the-variants.{Tick}
 use Rattle.gate.specs.declared.column.Column.{Column}
 use Rattle.gate.specs.declared.column.State.{State}
 use Rattle.gate.specs.Column.{changes, fresh}
-use Rattle.gate.specs.Scene.{Columns, mark-of, one-if, state-at, tick-all, ticked-marks}
+use Rattle.gate.specs.Gate.{granted-marks}
+use Rattle.gate.specs.Scene.{Columns, mark-of, one-if, state-at, tick-all}
 use Rattle.plan.specs.Plan.{Action, Touches}
 use Rattle.play.specs.Shown.{changes-height}
 use Rattle.play.proofs.Faces.{shown-changes}
@@ -44,7 +44,7 @@ module _ (m : Meaning) {xs : Columns} {ms : List ℕ} (size : length xs ≡ m .c
         ∙ mk .tells c ∙ past xs c (omega arith) ∙ sym (past (tick-all xs) c (omega (arith, length-tick xs)))
   ]
 
-  pub marked-tick : Marked (tick-all xs) (ticked-marks m xs ms)
+  pub marked-tick : Marked (tick-all xs) (granted-marks m xs ms Tick)
   unfolding mark-then
   marked-tick =
       record {
@@ -52,19 +52,10 @@ module _ (m : Meaning) {xs : Columns} {ms : List ℕ} (size : length xs ≡ m .c
         tells = λ c. elim (cases-lt c 256) [
           | inl l ↦ getD-map-counting mark-then 0 256 c c 0 l (omega arith) ∙ mark-is c
           | inr g ↦
-              getD-past (ticked-marks m xs ms) c 0 (omega (arith, length-map-counting mark-then 0 256))
+              getD-past (granted-marks m xs ms Tick) c 0 (omega (arith, length-map-counting mark-then 0 256))
               ∙ sym (past (tick-all xs) c (omega (arith, length-tick xs)))
         ];
       }
-
--- the marks once a work has begun: its column o is changing
-abbrev pub marks-then : Work → List ℕ → ℕ → List ℕ
-marks-then Entry ms o = ms
-marks-then Leave ms o = ms
-marks-then Wait ms o = ms
-marks-then Move ms o = ms
-marks-then PickUp ms o = set ms o 1
-marks-then Deliver ms o = set ms o 1
 
 module _ {a : Action} {t : ℕ} {xs ys : Columns} {ms : List ℕ} (mk : Marked xs ms) (pl : Placed a t xs ys)
     (still : (c : ℕ) → Touches a c → changes (state-at xs c) ≡ false) (few : a .to < 256) where

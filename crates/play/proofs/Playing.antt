@@ -17,8 +17,10 @@ use Rattle.terms.specs.Refusals.{Told}
 use Rattle.terms.specs.declared.work.Work.{Work}
 use Rattle.terms.specs.declared.work.Work.the-variants.{Leave}
 use Rattle.ground.specs.Meaning.{Meaning}
+use Rattle.gate.specs.declared.call.Call.the-variants.{Tick}
 use Rattle.gate.specs.declared.column.State.the-variants.{Free}
-use Rattle.gate.specs.Scene.{Columns, Scene, state-at, tick-all, ticked-marks}
+use Rattle.gate.specs.Gate.{granted-marks}
+use Rattle.gate.specs.Scene.{Columns, Scene, state-at, tick-all}
 use Rattle.gate.specs.Scene.{height-at as height-in}
 use Rattle.gate.specs.Words.{Stranded}
 use Rattle.plan.specs.Plan.{Action, line, no-action}
@@ -58,8 +60,8 @@ module _ {m : Meaning} {s : Site-settings} {plan : List Action} {targets : ℕ �
       record { columns = xs; marks = ms; is = refl; shows = subst (λ (u : ℕ). Shows m plan k u xs) e sh; marked = mk }
   ticked (suc d) k t xs ms sh mk h =
       let e : suc t + d ≡ t + suc d = omega arith in
-      subst (λ (u : ℕ). Showing m s plan k u (ticks d (site m s (tick-all xs) (ticked-marks m xs ms)))) e
-      (ticked d k (suc t) (tick-all xs) (ticked-marks m xs ms) (shows-tick ob sh (λ i g l. omega (arith, h i g l)))
+      subst (λ (u : ℕ). Showing m s plan k u (ticks d (site m s (tick-all xs) (granted-marks m xs ms Tick)))) e
+      (ticked d k (suc t) (tick-all xs) (granted-marks m xs ms Tick) (shows-tick ob sh (λ i g l. omega (arith, h i g l)))
       (marked-tick m (sh .size) (ob .law .few) mk) (λ i g l. omega (arith, h i g l)))
 
   shows-ready : (k now : ℕ) (xs : Columns) (ms : List ℕ) → k < length plan → Shows m plan k now xs → Marked xs ms
@@ -73,31 +75,31 @@ module _ {m : Meaning} {s : Site-settings} {plan : List Action} {targets : ℕ �
 
   module _ (now : ℕ) (xs : Columns) (sh : Shows m plan (length plan) now xs) where
     -- the last actions to run are leaves, and the ticks see them through
-    all-ended : (i : ℕ) → i < length plan → line plan i .end ≤ now + longest xs
-    all-ended i l = elim (cases-lt (now + longest xs) (line plan i .end)) [ inl g ↦ absurd (go g (leave-or-not (line plan i .work))) | inr g ↦ g ]
+    all-ended : (i : ℕ) → i < length plan → line plan i .end ≤ now + longest xs 256
+    all-ended i l = elim (cases-lt (now + longest xs 256) (line plan i .end)) [ inl g ↦ absurd (go g (leave-or-not (line plan i .work))) | inr g ↦ g ]
       where
-        go : now + longest xs < line plan i .end → (line plan i .work ≡ Leave) ⊎ (line plan i .work ≢ Leave) → ⊥
+        go : now + longest xs 256 < line plan i .end → (line plan i .work ≡ Leave) ⊎ (line plan i .work ≢ Leave) → ⊥
         go g (inl e) =
             let f : ℕ = line plan i .from in
             let seen = sh .running i f l (record { begun = sh .begun i l; before-end = omega arith }) (inl refl) in
             let rest : left (shown (line plan i) now f) ≡ max 1 (line plan i .end - now) =
             ap (λ (w : Work). left (shown-by w (line plan i .carry) f (line plan i .to) (line plan i .end - now) (eqb f f))) e in
-            omega (arith, longest-is xs f, ap left seen, rest)
+            omega (arith, longest-is xs 256 f (omega (arith, ob .rules .on-scale i l .from-ground, ob .law .few)), ap left seen, rest)
         go g (inr n) =
             let (j, lj, st) = ob .rules .carried-on i l n in
             omega (arith, sh .begun j lj, st .when)
 
-    module _ (ys : Columns) (end : Shows m plan (length plan) (now + longest xs) ys) where
+    module _ (ys : Columns) (end : Shows m plan (length plan) (now + longest xs 256) ys) where
       free-end : (c : ℕ) → state-at ys c ≡ Free
       free-end c = go (end .explained c)
         where
-          go : (state-at ys c ≡ Free) ⊎ Holder plan (length plan) (now + longest xs) c → state-at ys c ≡ Free
+          go : (state-at ys c ≡ Free) ⊎ Holder plan (length plan) (now + longest xs 256) c → state-at ys c ≡ Free
           go (inl e) = e
           go (inr (by-running i l r w)) = absurd (omega (arith, all-ended i l, r .before-end))
           go (inr (by-ended i l e n)) = let (j, lj, st) = goes-on ob i l e in absurd (n j lj st)
 
       high-end : (c : ℕ) → c < m .columns → height-in ys c ≡ targets c
-      high-end c l = omega (arith, end .raised c, ob .rules .reached c (now + longest xs) l all-ended)
+      high-end c l = omega (arith, end .raised c, ob .rules .reached c (now + longest xs 256) l all-ended)
 
   -- ---- action by action
 
@@ -150,7 +152,7 @@ module _ {m : Meaning} {s : Site-settings} {plan : List Action} {targets : ℕ �
       let no-more : drop k plan ≡ [] = drop-all k plan (omega arith) in
       let all : k ≡ length plan = omega arith in
       let sh′ = subst (λ (x : ℕ). Shows m plan x now xs) all sh in
-      let end = ticked (longest xs) (length plan) now xs ms sh′ mk (λ i g l. absurd (omega arith)) in
+      let end = ticked (longest xs 256) (length plan) now xs ms sh′ mk (λ i g l. absurd (omega arith)) in
       subst (λ (r : List Action). Comes m s plan targets (play r now (site m s xs ms))) (sym no-more)
       (subst (λ (v : Scene). Comes m s plan targets (record { answer = None; site = v })) (sym (end .is))
       (ends (site m s (end .columns) (end .marks)) (λ j c st. none j c (omega (arith, st .there)) st)

@@ -10,9 +10,10 @@ use Rattle.std.proofs.shelf.Tests.{cases-lt}
 use Rattle.gate.specs.declared.column.Column.{Column}
 use Rattle.gate.specs.Column.{changes, fresh}
 use Rattle.gate.specs.Scene.{Scene, one-if}
-use Rattle.play.specs.Play.{Fresh}
+use Rattle.play.specs.Play.{Blank}
 use Rattle.play.specs.Stands.{Plays-stand}
 use Rattle.play.proofs.Columns.{at-opened}
+use Rattle.play.proofs.Freshness.{fresh-decides}
 use Rattle.play.proofs.Marks.{Marked}
 use Rattle.play.proofs.Plans.{Obeys}
 use Rattle.play.proofs.Playing.{from-line}
@@ -27,13 +28,13 @@ blank c =
       | inr g ↦ let ms : List ℕ = replicate 256 0 in getD-past ms c 0 (omega (arith, length-replicate {A = ℕ} 256 0))
     ]
 
-unmarked : (v : Scene) → Fresh v → Marked (v .columns) (v .marks)
+unmarked : (v : Scene) → Blank v → Marked (v .columns) (v .marks)
 unmarked v fr = record { room = fr .room; tells = λ c. fr .unmarked c ∙ ap (λ z. one-if (changes z)) (sym (fr .free c)) }
 
 pub plays-stand : Plays-stand
 plays-stand =
     record {
-      opens-fresh = λ m s.
+      opens-blank = λ m s.
           record {
             size = length-replicate (m .columns) fresh;
             free = λ c. ap (λ (x : Column). x .state) (at-opened (m .columns) c);
@@ -41,6 +42,7 @@ plays-stand =
             room = length-replicate {A = ℕ} 256 0;
             unmarked = blank;
           };
+      fresh-words = fresh-decides;
       settles = settles-so;
       played = played-so;
       comes = λ v plan targets law usable rules fr.

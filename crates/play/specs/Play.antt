@@ -1,20 +1,22 @@
 -- Playing a list of actions: by the gate's own definitions, and as a relation. Assumes nothing.
 use mathlib.Core.Path.{_≡_}
-use mathlib.Core.Bool.{Bool, false}
+use mathlib.Core.Bool.{Bool, false, cond, _&&_}
 use mathlib.Core.List.{List, [], _∷_}
 use Prim.Native.Nat.{ℕ, zero, suc, _-_, _<_, max}
+use lib.Dec.{eqb}
 use lib.ListN.{length, getD}
 use Rattle.std.specs.declared.option.Option.{Option}
 use Rattle.std.specs.declared.option.Option.the-variants.{Some, None}
-use Rattle.terms.specs.Refusals.{Told}
+use Rattle.terms.specs.Refusals.{Told, told}
+use Rattle.terms.specs.declared.refusal.Rule.the-variants.{NotFresh}
 use Rattle.terms.specs.declared.work.Work.{Work}
 use Rattle.terms.specs.declared.work.Work.the-variants.{Entry, Leave as LeaveWork, Wait, Move as MoveWork, PickUp, Deliver}
 use Rattle.gate.specs.declared.call.Call.{Call}
 use Rattle.gate.specs.declared.call.Call.the-variants.{Enter, Move, Lay, Lift, Leave, Tick}
 use Rattle.gate.specs.declared.column.State.{State}
 use Rattle.gate.specs.declared.column.State.the-variants.{Free, Standing, Busy}
-use Rattle.gate.specs.Column.{runs}
-use Rattle.gate.specs.Scene.{Columns, Scene, height-at, state-at}
+use Rattle.gate.specs.Column.{robot, runs}
+use Rattle.gate.specs.Scene.{Columns, Scene, blocks-standing, height-at, robots, state-at}
 use Rattle.gate.specs.Gate.{grant, refusal, step}
 use Rattle.plan.specs.Plan.{Action}
 
@@ -54,13 +56,14 @@ left Free = 0
 left (Standing block) = 0
 left (Busy part n) = max 1 n
 
-abbrev pub longest : Columns → ℕ
-longest [] = 0
-longest (x ∷ xs) = max (left (x .state)) (longest xs)
+-- the most ticks that are left at the columns below n
+unfoldable pub longest : Columns → ℕ → ℕ
+longest xs zero = 0
+longest xs (suc n) = max (left (state-at xs n)) (longest xs n)
 
--- ticks until nothing runs
+-- ticks until nothing runs; no ground has more than 256 columns
 abbrev pub settled : Scene → Scene
-settled v = ticks (longest (v .columns)) v
+settled v = ticks (longest (v .columns) 256) v
 
 -- what play answers, a refusal or none, and the site that it leaves
 pub record Outcome : Type 0 where
@@ -101,12 +104,24 @@ pub data Played : List Action → ℕ → Scene → Option Told → Scene → Ty
 -- ticking until nothing runs ends: nothing runs then, and before the last tick something does
 pub record Settles (v : Scene) : Type 0 where
   pub quiet : Quiet (settled v)
-  pub no-sooner : (n : ℕ) → n < longest (v .columns) → Quiet (ticks n v) → ⊥
+  pub no-sooner : (n : ℕ) → n < longest (v .columns) 256 → Quiet (ticks n v) → ⊥
 
--- as many columns as the ground has, each free and at height 0, and nothing changing
-pub record Fresh (v : Scene) : Type 0 where
+-- a site as it opens: as many columns as the ground has, each free and at height 0, and nothing changing
+pub record Blank (v : Scene) : Type 0 where
   pub size : length (v .columns) ≡ v .meaning .columns
   pub free : (c : ℕ) → state-at (v .columns) c ≡ Free
   pub flat : (c : ℕ) → height-at (v .columns) c ≡ 0
   pub room : length (v .marks) ≡ 256
   pub unmarked : (c : ℕ) → getD (v .marks) c 0 ≡ 0
+
+-- fresh: no robot is on the site, and every height is 0
+abbrev pub is-fresh : Scene → Bool
+is-fresh v = eqb (robots (v .meaning) (v .columns)) 0 && eqb (blocks-standing (v .meaning) (v .columns)) 0
+
+pub record Fresh (v : Scene) : Type 0 where
+  pub no-robot : (c : ℕ) → c < v .meaning .columns → robot (state-at (v .columns) c) ≡ false
+  pub flat : (c : ℕ) → c < v .meaning .columns → height-at (v .columns) c ≡ 0
+
+-- play as it is called: only a fresh site is played on, any other stays as it is
+abbrev pub play-on : List Action → Scene → Outcome
+play-on actions v = cond (is-fresh v) (play actions 0 v) (record { answer = Some (told NotFresh 0 0); site = v })

@@ -1,7 +1,9 @@
--- What comes of playing a plan that keeps the rules, on a fresh site. Assumes nothing.
+-- What comes of playing a plan that keeps the rules, on a site as it opens. Assumes nothing.
 use mathlib.Core.Path.{_≡_}
 use mathlib.Core.List.{List}
 use Prim.Native.Nat.{ℕ, _≤_, _<_}
+use lib.ListN.{length}
+use Rattle.std.specs.Orderings.{Decides}
 use Rattle.std.specs.declared.option.Option.the-variants.{Some, None}
 use Rattle.terms.specs.Durations.{Site-settings}
 use Rattle.terms.specs.Refusals.{told}
@@ -12,7 +14,7 @@ use Rattle.gate.specs.Scene.{Scene, height-at, opened, state-at}
 use Rattle.plan.specs.Judged.{Timed}
 use Rattle.plan.specs.Plan.{Action, line}
 use Rattle.plan.specs.Rules.{Rules}
-use Rattle.play.specs.Play.{Fresh, Outcome, Played, Settles, play}
+use Rattle.play.specs.Play.{Blank, Fresh, Outcome, Played, Settles, is-fresh, play}
 use Rattle.play.specs.Shown.{Described}
 use Rattle.play.specs.Strands.{Strands, Strands-lowest}
 
@@ -32,12 +34,15 @@ pub record Usable (s : Site-settings) : Type 0 where
   pub low : s .levels ≤ 256
 
 pub record Plays-stand : Type 0 where
-  -- a site opens fresh
-  pub opens-fresh : (m : Meaning) (s : Site-settings) → Fresh (opened m s)
+  -- a site opens blank
+  pub opens-blank : (m : Meaning) (s : Site-settings) → Blank (opened m s)
+  -- the test for a fresh site says what fresh means
+  pub fresh-words : (v : Scene) → Decides (is-fresh v) (Fresh v)
   -- ticking until nothing runs ends
-  pub settles : (v : Scene) → Settles v
+  pub settles : (v : Scene) → length (v .columns) ≤ 256 → Settles v
   -- play is what its relation says, of every list of actions
-  pub played : (actions : List Action) (now : ℕ) (v : Scene) → Played actions now v (play actions now v .answer) (play actions now v .site)
+  pub played : (actions : List Action) (now : ℕ) (v : Scene) → length (v .columns) ≤ 256
+      → Played actions now v (play actions now v .answer) (play actions now v .site)
   -- and this comes of a plan that keeps the rules
   pub comes : (v : Scene) (plan : List Action) (targets : ℕ → ℕ) → Lawful (v .meaning) → Usable (v .settings) → Rules (v .meaning) (v .settings) plan targets
-      → Fresh v → Comes (v .meaning) (v .settings) plan targets (play plan 0 v)
+      → Blank v → Comes (v .meaning) (v .settings) plan targets (play plan 0 v)

@@ -2,12 +2,12 @@
 use mathlib.Core.Path.{_≡_, refl, sym, ap, _∙_}
 use mathlib.Core.Bool.{Bool, true, false, not, cond}
 use mathlib.Core.List.{List, [], _∷_}
-use mathlib.Core.Logic.{_⊎_, inl, inr}
+use mathlib.Core.Logic.{inl, inr}
 use Prim.Native.Nat.{ℕ, zero, suc, _<_}
 use native.Mathlib.Omega.{arith}
 use lib.Dec.{ltb}
 use Rattle.std.specs.shelf.Lists.{All}
-use Rattle.std.proofs.shelf.Tests.{false≢true, true≢false, both-ways, not-false, not-from-true, ltb-true, lt-ltb, or-parts, and-from, cond-false, cases-eq}
+use Rattle.std.proofs.shelf.Tests.{false≢true, true≢false, not-false, not-from-true, ltb-true, lt-ltb, or-parts, and-from, cond-false, cases-eq}
 use Rattle.gate.specs.Column.{held, stands, robot, carries}
 use Rattle.gate.specs.Gate.{off, stranded-by, lowest-stranded}
 use Rattle.gate.specs.Scene.{any-below, Columns, state-at}

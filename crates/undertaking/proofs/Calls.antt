@@ -11,7 +11,7 @@ use Rattle.gate.proofs.Sums.{zeros}
 use Rattle.gate.specs.Column.{fresh, runs, robot, carries, changes}
 use Rattle.std.specs.Options.{isSome}
 use Rattle.gate.specs.Gate.{granted, settle, lowest-stranded}
-use Rattle.gate.specs.Scene.{any-below, Columns, state-at, begin, tick-all, sum-below, one-if}
+use Rattle.gate.specs.Scene.{Columns, state-at, begin, tick-all, sum-below, one-if}
 use Rattle.gate.specs.declared.call.Call.{Call}
 use Rattle.gate.specs.declared.call.Call.the-variants.{Enter, Move, Lay, Lift, Leave, Tick, Recall}
 use Rattle.gate.specs.declared.column.Column.{Column}

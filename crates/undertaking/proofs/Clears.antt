@@ -1,12 +1,10 @@
 -- Obeying recall from a quiet site empties it in as many calls as the toll says: each call lowers the toll by one. Assumes nothing.
 use mathlib.Core.Path.{_≡_, refl, sym, ap, subst, _∙_}
-use mathlib.Core.Bool.{Bool, true, false, not, cond}
-use mathlib.Core.List.{[], _∷_}
+use mathlib.Core.Bool.{true, false}
 use mathlib.Core.Logic.{inl, inr}
-use Prim.Native.Nat.{ℕ, zero, suc, _≤_, _<_}
+use Prim.Native.Nat.{ℕ, zero, suc, _≤_}
 use native.Mathlib.Omega.{arith}
-use Rattle.std.proofs.shelf.Tests.{true≢false, both-ways, cases-bool, not-from-true, not-from-false, or-from, cond-true, cond-false}
-use Rattle.std.proofs.shelf.Ways.{decides-below-or}
+use Rattle.std.proofs.shelf.Tests.{true≢false, both-ways, cases-bool, not-from-true, or-from, cond-true, cond-false}
 use Rattle.gate.proofs.Sums.{zeros, sum-has}
 use Rattle.gate.specs.Column.{held, runs, stands, robot}
 use Rattle.gate.proofs.Below.{none-any}
@@ -32,11 +30,9 @@ use Rattle.ways.proofs.Nearest.{Nearest, found}
 use Rattle.undertaking.proofs.Plain.{Proper, relief, tests, answer, step, Obeyed, toll, robot-steps, recalled}
 use Rattle.undertaking.specs.Obeying.{Empty, Quiet, call-of}
 use Rattle.ways.proofs.Exactness.{ways-exact}
-use Rattle.ways.proofs.Firsts.{none≢some}
 use Rattle.ways.proofs.Tests.{near-decides}
 use Rattle.ways.specs.Table.{near, steps}
-use Rattle.ways.specs.Way.{Relief, Way}
-use Rattle.ways.specs.Way.Way.{home, onward}
+use Rattle.ways.specs.Way.{Relief}
 use Rattle.undertaking.proofs.Kept.{Kept}
 use Rattle.undertaking.proofs.Ticks.{kept-tick}
 use Rattle.undertaking.proofs.Asked.{none-applies, not-off}

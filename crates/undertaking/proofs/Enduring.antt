@@ -1,35 +1,29 @@
 -- The law of durations: what runs goes on whatever is called, until its last tick. Assumes nothing.
-use mathlib.Core.Path.{_≡_, refl, sym, ap, subst, _∙_}
-use mathlib.Core.Bool.{Bool, true, false}
+use mathlib.Core.Path.{_≡_, refl, ap, _∙_}
 use mathlib.Core.List.{List, [], _∷_, _++_}
-use mathlib.Core.Logic.{_≢_, _⊎_, inl, inr}
-use Prim.Native.Nat.{ℕ, zero, suc, pred, _+_, _-_, _≤_, _<_}
+use Prim.Native.Nat.{ℕ, zero, suc, _+_, _-_, _<_}
 use native.Mathlib.Omega.{arith}
 use Rattle.std.specs.declared.option.Option.{Option}
 use Rattle.std.specs.declared.option.Option.the-variants.{Some, None}
-use Rattle.std.proofs.shelf.Tests.{cases-eq}
 use Rattle.terms.specs.Durations.{Site-settings}
 use Rattle.terms.specs.Refusals.{Told}
 use Rattle.ground.specs.Meaning.{Meaning, Lawful}
 use Rattle.gate.specs.declared.call.Call.{Call}
 use Rattle.gate.specs.declared.call.Call.the-variants.{Enter, Move, Lay, Lift, Leave, Tick, Recall}
-use Rattle.gate.specs.declared.column.Column.{Column}
 use Rattle.gate.specs.declared.column.Part.{Part}
-use Rattle.gate.specs.declared.column.Part.the-variants.{Entering, Leaving, Departing, Arriving, Laying, Rising, Lifting, Sinking}
-use Rattle.gate.specs.declared.column.State.{State}
-use Rattle.gate.specs.declared.column.State.the-variants.{Free, Standing, Busy}
-use Rattle.gate.specs.Column.{facing, carries, runs, rest, stays, built, next, next-height}
-use Rattle.gate.specs.Scene.{Columns, at, height-at, state-at, begin, tick-all}
+use Rattle.gate.specs.declared.column.Part.the-variants.{Entering, Leaving, Departing, Laying, Lifting}
+use Rattle.gate.specs.declared.column.State.the-variants.{Busy}
+use Rattle.gate.specs.Column.{carries, runs, rest, stays, built, next, next-height}
+use Rattle.gate.specs.Scene.{Columns, height-at, state-at, begin, tick-all}
 use Rattle.gate.specs.Gate.{granted, settle}
 use Rattle.undertaking.specs.Runs.{ticks}
-use Rattle.undertaking.specs.Lasting.{Is, Under-way, Ended, About}
+use Rattle.undertaking.specs.Lasting.{Is}
 use Rattle.undertaking.proofs.Plain.{Proper, answer, step, run}
-use Rattle.undertaking.proofs.Seen.{Put, Begun, put-all, begun-all}
 use Rattle.undertaking.proofs.Kept.{Kept}
 use Rattle.undertaking.proofs.Turns.{next-busy}
 use Rattle.undertaking.proofs.Ticks.{state-tick, height-tick, kept-tick}
 use Rattle.undertaking.proofs.Grants.{Ready, Giver, heights-put, still-put, heights-begin, still-begin}
-use Rattle.undertaking.proofs.Allowed.{move-time, one-higher, lone-enter, lone-leave, giver-move, giver-lay, giver-lift, ready-begun, enters, leaves, moves-ready, lays-ready, lifts-ready}
+use Rattle.undertaking.proofs.Allowed.{move-time, lone-enter, lone-leave, giver-move, giver-lay, giver-lift, ready-begun, enters, leaves, moves-ready, lays-ready, lifts-ready}
 use Rattle.undertaking.proofs.Calls.{kept-step}
 
 -- heights and what runs are as before

@@ -1,9 +1,9 @@
 -- Every site that was opened and only called keeps the law of durations. Assumes nothing.
 use mathlib.Core.Path.{_≡_, refl, sym, ap, subst, _∙_}
-use mathlib.Core.Bool.{Bool, true, false}
+use mathlib.Core.Bool.{Bool}
 use mathlib.Core.List.{List, [], _∷_, _++_}
 use mathlib.Core.Logic.{_≢_, _⊎_, inl, inr}
-use Prim.Native.Nat.{ℕ, zero, suc, pred, _-_, _≤_, _<_}
+use Prim.Native.Nat.{ℕ, zero, suc, pred, _-_, _<_}
 use native.Mathlib.Omega.{arith}
 use Rattle.std.specs.declared.option.Option.{Option}
 use Rattle.std.specs.declared.option.Option.the-variants.{Some, None}
@@ -17,9 +17,9 @@ use Rattle.gate.specs.declared.column.Part.{Part}
 use Rattle.gate.specs.declared.column.Part.the-variants.{Entering, Leaving, Departing, Arriving, Laying, Rising, Lifting, Sinking}
 use Rattle.gate.specs.declared.column.State.{State}
 use Rattle.gate.specs.declared.column.State.the-variants.{Free, Standing, Busy}
-use Rattle.gate.specs.Column.{column, carries, held, rest, stays, built, next, next-height}
+use Rattle.gate.specs.Column.{column, carries, rest, stays, built, next, next-height}
 use Rattle.gate.specs.Scene.{Columns, Scene, at, height-at, state-at, begin, tick-all}
-use Rattle.gate.specs.Gate.{refusal, granted, settle}
+use Rattle.gate.specs.Gate.{granted, settle}
 use Rattle.gate.specs.Gate.{step as step-of}
 use Rattle.undertaking.specs.Runs.{ticks, run as run-of}
 use Rattle.undertaking.specs.Lasting.{Is, Under-way, Ended, About, Unasked, Builds, lasting, Lasts}

@@ -1,19 +1,17 @@
 -- The marks and the states of a site say what runs on it. Assumes nothing.
 use mathlib.Core.Path.{_≡_, refl, sym, ap, _∙_}
-use mathlib.Core.Bool.{Bool, true, false}
-use mathlib.Core.Logic.{_⊎_, inl, inr}
+use mathlib.Core.Bool.{true}
+use mathlib.Core.Logic.{inl, inr}
 use Prim.Native.Nat.{ℕ}
 use Rattle.std.proofs.shelf.Tests.{false≢true, true≢false}
-use Rattle.std.specs.declared.option.Option.the-variants.{Some}
 use Rattle.terms.specs.Durations.{Site-settings}
 use Rattle.ground.specs.Meaning.{Meaning, Lawful}
-use Rattle.gate.specs.declared.column.Part.{Part}
 use Rattle.gate.specs.declared.column.Part.the-variants.{Entering, Leaving, Departing, Arriving, Laying, Rising, Lifting, Sinking}
 use Rattle.gate.specs.declared.column.State.{State}
 use Rattle.gate.specs.declared.column.State.the-variants.{Free, Standing, Busy}
 use Rattle.gate.specs.Column.{robot, changes, held}
 use Rattle.gate.specs.Scene.{Columns, state-at}
-use Rattle.undertaking.specs.Obeying.{Robot, Holds}
+use Rattle.undertaking.specs.Obeying.{Holds}
 use Rattle.undertaking.specs.Obeying.Holds.{own, also}
 use Rattle.undertaking.specs.Undertaking.{Built-on, Reads}
 use Rattle.undertaking.proofs.Plain.{Proper}

@@ -2,8 +2,8 @@
 use mathlib.Core.Path.{_≡_, refl, sym, ap, subst, _∙_}
 use mathlib.Core.Bool.{Bool, true, false, not, cond, _||_}
 use mathlib.Core.List.{List, [], _∷_, map}
-use mathlib.Core.Logic.{_≢_, _⊎_, inl, inr}
-use Prim.Native.Nat.{ℕ, zero, suc, _+_, _≤_, _<_}
+use mathlib.Core.Logic.{_≢_, inl, inr}
+use Prim.Native.Nat.{ℕ, zero, suc, _≤_, _<_}
 use native.Mathlib.Omega.{arith}
 use lib.Dec.{eqb, ltb}
 use lib.ListN.{length, getD, set, replicate}
@@ -31,9 +31,9 @@ use Rattle.gate.specs.Gate.{refusal, granted, granted-marks, grant, settle}
 use Rattle.gate.specs.Gate.{tests as gate-tests, step as step-of}
 use Rattle.gate.specs.Recall.{recall, recalled as gate-recalled}
 use Rattle.undertaking.specs.Runs.{run as run-of, after-ticks as after-ticks-of, tally as tally-of}
-use Rattle.undertaking.specs.Obeying.{Quiet, call-of, Rested as Rested-of, Obeyed as Obeyed-of}
+use Rattle.undertaking.specs.Obeying.{call-of, Rested as Rested-of, Obeyed as Obeyed-of}
 use Rattle.undertaking.proofs.Plain.{Proper, opening, relief, tried, answer, step, run, tally, after-ticks, recalled, Rested, Obeyed}
-use Rattle.undertaking.proofs.Seen.{at-opening, Put, Begun, put-all, begun-all}
+use Rattle.undertaking.proofs.Seen.{at-opening, put-all, begun-all}
 use Rattle.undertaking.proofs.Kept.{Kept}
 use Rattle.undertaking.proofs.Ticks.{kept-tick}
 use Rattle.undertaking.proofs.Grants.{Ready}
@@ -154,9 +154,9 @@ module _ (m : Meaning) (s : Site-settings) (law : Lawful m) (ok : Proper s) wher
   tally-scene f g same [] xs k = refl
   tally-scene f g same (a ∷ ks) xs k =
       let here : settle (refusal (scene m s xs) a) (f (scene m s xs) a) 0 ≡ settle (answer m s xs a) (g xs a) 0 =
-          ap (λ o. settle o (f (scene m s xs) a) 0) (same-refusal m s law ok xs k a) ∙ ap (λ n. settle (answer m s xs a) n 0) (same xs a) in
+      ap (λ o. settle o (f (scene m s xs) a) 0) (same-refusal m s law ok xs k a) ∙ ap (λ n. settle (answer m s xs a) n 0) (same xs a) in
       let rest : tally-of f (step-of (scene m s xs) a) ks ≡ tally g m s (step m s xs a) ks =
-          ap (λ v. tally-of f v ks) (step-scene m s law ok xs k a) ∙ tally-scene f g same ks (step m s xs a) (kept-step m s law ok xs k a) in
+      ap (λ v. tally-of f v ks) (step-scene m s law ok xs k a) ∙ tally-scene f g same ks (step m s xs a) (kept-step m s law ok xs k a) in
       omega arith
 
   kept-rested : {xs ys : Columns} → Rested xs ys → Kept m s xs → Kept m s ys

@@ -3,7 +3,6 @@ use mathlib.Core.Path.{_≡_, sym, ap, _∙_}
 use mathlib.Core.Bool.{true, cond}
 use mathlib.Core.Logic.{inl, inr}
 use Prim.Native.Nat.{ℕ, suc}
-use native.Mathlib.Omega.{arith}
 use Rattle.std.proofs.shelf.Tests.{cases-bool, cond-true, cond-false}
 use Rattle.gate.proofs.Sums.{sum-same}
 use Rattle.gate.specs.Column.{robot}
@@ -17,7 +16,6 @@ use Rattle.undertaking.specs.Obeying.{Toll}
 use Rattle.std.specs.Options.{valueOr}
 use Rattle.ways.proofs.Exactness.{ways-exact, in-table}
 use Rattle.ways.specs.Table.{steps}
-use Rattle.ways.specs.Way.{Fewest}
 use Rattle.undertaking.proofs.Kept.{Kept}
 
 module _ (m : Meaning) (law : Lawful m) (xs : Columns) where

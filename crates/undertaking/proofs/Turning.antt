@@ -1,5 +1,5 @@
 -- One call more of a list, with its answer. Assumes nothing.
-use mathlib.Core.Path.{_≡_, refl, sym, ap, _∙_}
+use mathlib.Core.Path.{_≡_, sym, ap, _∙_}
 use mathlib.Core.List.{List, [], _∷_, _++_, map}
 use Rattle.std.proofs.shelf.Lists.{append-assoc, append-nil, map-append}
 use Rattle.gate.specs.declared.call.Call.{Call}

@@ -1,7 +1,7 @@
 -- The undertaking, of every lawful ground, all settings and every list of calls. Assumes nothing.
 use mathlib.Core.Path.{_≡_, refl, sym, ap, subst, _∙_}
 use mathlib.Core.List.{List, [], _∷_}
-use Prim.Native.Nat.{ℕ, _+_, _≤_}
+use Prim.Native.Nat.{ℕ, _≤_}
 use native.Mathlib.Omega.{arith}
 use Rattle.std.specs.declared.option.Option.the-variants.{None}
 use Rattle.terms.specs.Durations.{Site-settings}
@@ -16,7 +16,7 @@ use Rattle.gate.specs.Gate.{step as step-of}
 use Rattle.gate.specs.Recall.{recall, Homeward}
 use Rattle.gate.proofs.Deciding.{performed}
 use Rattle.gate.proofs.Recalling.{recall-rightly}
-use Rattle.undertaking.specs.Runs.{Reply, reply, replies, Relates, Does, ticks, brought-by as brought-of, out-by as out-of, toil-of as toiled, building-of as built-by}
+use Rattle.undertaking.specs.Runs.{reply, replies, Relates, Does, brought-by as brought-of, out-by as out-of, toil-of as toiled, building-of as built-by}
 use Rattle.undertaking.specs.Runs.{run as run-of, after-ticks as after-ticks-of, tally as tally-of}
 use Rattle.undertaking.specs.Obeying.{Empty, Quiet, Holds, Toll, Obeyed as Obeyed-of}
 use Rattle.undertaking.specs.Lasting.{Lasts}
@@ -120,7 +120,7 @@ module _ (m : Meaning) (s : Site-settings) (law : Lawful m) (ok : Proper s) wher
       let P : Relief → Type 0 = λ r. Toll m r xs t in
       let E : Columns → Type 0 = Empty in
       let there = least m s law ok (relief xs) more xs k (quiet-calm xs q) refl
-            (subst E (ap (λ (v : Scene). v .columns) (run-scene m s law ok more xs k)) h) (sym (tally-scene m s law ok built-by building-of built-same more xs k) ∙ z) in
+      (subst E (ap (λ (v : Scene). v .columns) (run-scene m s law ok more xs k)) h) (sym (tally-scene m s law ok built-by building-of built-same more xs k) ∙ z) in
       omega (
         arith,
         toll-is m law xs t (subst P (lies m s law ok xs k) l),

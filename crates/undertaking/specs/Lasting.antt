@@ -7,7 +7,6 @@ use Prim.Native.Nat.{ℕ, suc, _-_, _<_}
 use Rattle.std.specs.declared.option.Option.the-variants.{None}
 use Rattle.gate.specs.declared.call.Call.{Call}
 use Rattle.gate.specs.declared.call.Call.the-variants.{Enter, Move, Lay, Lift, Leave, Tick, Recall}
-use Rattle.gate.specs.declared.column.Part.{Part}
 use Rattle.gate.specs.declared.column.Part.the-variants.{Entering, Leaving, Departing, Arriving, Laying, Rising, Lifting, Sinking}
 use Rattle.gate.specs.declared.column.State.{State}
 use Rattle.gate.specs.declared.column.State.the-variants.{Free, Standing, Busy}

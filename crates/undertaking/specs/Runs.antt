@@ -1,6 +1,5 @@
 -- Lists of calls: the site after them, their answers, and what is counted over them. Assumes nothing.
 use mathlib.Core.Path.{_≡_}
-use mathlib.Core.Bool.{Bool}
 use mathlib.Core.List.{List, [], _∷_}
 use Prim.Native.Nat.{ℕ, zero, suc, _+_}
 use Rattle.std.specs.declared.option.Option.{Option}
@@ -13,7 +12,7 @@ use Rattle.gate.specs.declared.call.Call.the-variants.{Enter, Move, Lay, Lift, 
 use Rattle.gate.specs.declared.order.Order.{Order}
 use Rattle.gate.specs.Scene.{Scene, one-if, blocks-leaving}
 use Rattle.gate.specs.Gate.{refusal, settle, step}
-use Rattle.gate.specs.Recall.{recall, Homeward, Recalled}
+use Rattle.gate.specs.Recall.{recall, Recalled}
 use Rattle.gate.specs.Words.{Performed}
 use Rattle.undertaking.specs.declared.answer.Answer.{Answer}
 use Rattle.undertaking.specs.declared.answer.Answer.the-variants.{Granted, Refused, Named}

@@ -1,10 +1,9 @@
 -- What is undertaken of every site that was opened and only called, in the subject's words. Assumes nothing.
 use mathlib.Core.Path.{_≡_}
-use mathlib.Core.Bool.{true, false}
-use mathlib.Core.List.{List, map}
+use mathlib.Core.Bool.{true}
+use mathlib.Core.List.{List}
 use mathlib.Core.Logic.{_⊎_}
 use Prim.Native.Nat.{ℕ, _+_, _≤_, _<_}
-use Rattle.std.specs.declared.option.Option.the-variants.{None}
 use Rattle.terms.specs.Durations.{Site-settings}
 use Rattle.ground.specs.Meaning.{Meaning}
 use Rattle.ways.specs.Way.{Way}

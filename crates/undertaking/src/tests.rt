@@ -60,8 +60,13 @@ fn obey<G: Ground>(site: &mut Site<G>, actions: u32) -> Result<(), Fail> {
         };
         check_eq(order.left, actions - k)?;
         let call = match order.next {
-            Next::Leaves => Call::Leave { column: order.column },
-            Next::Moves { to } => Call::Move { from: order.column, to },
+            Next::Leaves => Call::Leave {
+                column: order.column,
+            },
+            Next::Moves { to } => Call::Move {
+                from: order.column,
+                to,
+            },
         };
         follow(site, &[Row(call, 0, 0, 3)])?;
     }
@@ -75,16 +80,72 @@ fn on_a_square(rt: LibcRuntime) -> Result<(), Fail> {
     let mut site = Site::open(Plot::new(rt.alloc())?, square(3, 5)?, settings(3, 3, 0)?);
     let rows = [
         Row(Call::Recall, 32, 0, 0),
-        Row(Call::Enter { column: 15, block: false }, 23, 0, 0),
-        Row(Call::Enter { column: 6, block: false }, 26, 0, 0),
-        Row(Call::Enter { column: 5, block: true }, 0, 0, 0),
+        Row(
+            Call::Enter {
+                column: 15,
+                block: false,
+            },
+            23,
+            0,
+            0,
+        ),
+        Row(
+            Call::Enter {
+                column: 6,
+                block: false,
+            },
+            26,
+            0,
+            0,
+        ),
+        Row(
+            Call::Enter {
+                column: 5,
+                block: true,
+            },
+            0,
+            0,
+            0,
+        ),
         Row(Call::Recall, 31, 0, 0),
         Row(Call::Move { from: 5, to: 6 }, 24, 0, 0),
         Row(Call::Leave { column: 5 }, 24, 0, 0),
-        Row(Call::Enter { column: 5, block: false }, 27, 0, 1),
-        Row(Call::Enter { column: 0, block: false }, 0, 0, 1),
-        Row(Call::Enter { column: 1, block: false }, 0, 0, 1),
-        Row(Call::Enter { column: 2, block: false }, 29, 0, 0),
+        Row(
+            Call::Enter {
+                column: 5,
+                block: false,
+            },
+            27,
+            0,
+            1,
+        ),
+        Row(
+            Call::Enter {
+                column: 0,
+                block: false,
+            },
+            0,
+            0,
+            1,
+        ),
+        Row(
+            Call::Enter {
+                column: 1,
+                block: false,
+            },
+            0,
+            0,
+            1,
+        ),
+        Row(
+            Call::Enter {
+                column: 2,
+                block: false,
+            },
+            29,
+            0,
+            0,
+        ),
         Row(Call::Move { from: 5, to: 99 }, 23, 0, 0),
         Row(Call::Move { from: 99, to: 5 }, 23, 0, 0),
         Row(Call::Move { from: 3, to: 4 }, 24, 0, 0),
@@ -110,7 +171,15 @@ fn on_a_square(rt: LibcRuntime) -> Result<(), Fail> {
         Row(Call::Move { from: 6, to: 7 }, 0, 0, 1),
         Row(Call::Lay { from: 5, to: 6 }, 0, 0, 1),
         Row(Call::Leave { column: 5 }, 0, 0, 1),
-        Row(Call::Enter { column: 5, block: true }, 0, 0, 1),
+        Row(
+            Call::Enter {
+                column: 5,
+                block: true,
+            },
+            0,
+            0,
+            1,
+        ),
         Row(Call::Lay { from: 5, to: 6 }, 28, 0, 0),
         Row(Call::Lift { from: 1, to: 6 }, 0, 0, 1),
         Row(Call::Lay { from: 1, to: 6 }, 0, 0, 1),
@@ -118,22 +187,62 @@ fn on_a_square(rt: LibcRuntime) -> Result<(), Fail> {
         Row(Call::Leave { column: 2 }, 0, 0, 1),
         Row(Call::Leave { column: 1 }, 0, 0, 1),
         Row(Call::Leave { column: 5 }, 0, 0, 1),
-        Row(Call::Enter { column: 2, block: true }, 0, 0, 1),
+        Row(
+            Call::Enter {
+                column: 2,
+                block: true,
+            },
+            0,
+            0,
+            1,
+        ),
         Row(Call::Lay { from: 2, to: 7 }, 0, 0, 1),
         Row(Call::Leave { column: 2 }, 0, 0, 1),
-        Row(Call::Enter { column: 1, block: true }, 0, 0, 1),
+        Row(
+            Call::Enter {
+                column: 1,
+                block: true,
+            },
+            0,
+            0,
+            1,
+        ),
         Row(Call::Move { from: 1, to: 6 }, 0, 0, 1),
         Row(Call::Lay { from: 6, to: 7 }, 0, 0, 1),
         Row(Call::Lay { from: 6, to: 7 }, 25, 0, 0),
         Row(Call::Move { from: 6, to: 1 }, 0, 0, 1),
         Row(Call::Leave { column: 1 }, 0, 0, 1),
-        Row(Call::Enter { column: 2, block: false }, 0, 0, 1),
+        Row(
+            Call::Enter {
+                column: 2,
+                block: false,
+            },
+            0,
+            0,
+            1,
+        ),
         Row(Call::Move { from: 2, to: 7 }, 28, 0, 0),
         Row(Call::Leave { column: 2 }, 0, 0, 1),
-        Row(Call::Enter { column: 1, block: false }, 0, 0, 1),
+        Row(
+            Call::Enter {
+                column: 1,
+                block: false,
+            },
+            0,
+            0,
+            1,
+        ),
         Row(Call::Move { from: 1, to: 6 }, 0, 0, 1),
         Row(Call::Move { from: 6, to: 7 }, 0, 0, 1),
-        Row(Call::Enter { column: 5, block: false }, 0, 0, 1),
+        Row(
+            Call::Enter {
+                column: 5,
+                block: false,
+            },
+            0,
+            0,
+            1,
+        ),
         Row(Call::Lift { from: 5, to: 6 }, 30, 7, 0),
     ];
     follow(&mut site, &rows)?;
@@ -152,11 +261,35 @@ fn on_a_row(rt: LibcRuntime) -> Result<(), Fail> {
     };
     let mut site = Site::open(Plot::new(rt.alloc())?, row, settings(2, 3, 1)?);
     let rows = [
-        Row(Call::Enter { column: 0, block: false }, 0, 0, 2),
+        Row(
+            Call::Enter {
+                column: 0,
+                block: false,
+            },
+            0,
+            0,
+            2,
+        ),
         Row(Call::Move { from: 0, to: 1 }, 0, 0, 1),
         Row(Call::Move { from: 1, to: 2 }, 0, 0, 1),
-        Row(Call::Enter { column: 0, block: true }, 0, 0, 2),
-        Row(Call::Enter { column: 4, block: true }, 0, 0, 2),
+        Row(
+            Call::Enter {
+                column: 0,
+                block: true,
+            },
+            0,
+            0,
+            2,
+        ),
+        Row(
+            Call::Enter {
+                column: 4,
+                block: true,
+            },
+            0,
+            0,
+            2,
+        ),
         Row(Call::Lay { from: 0, to: 1 }, 0, 0, 0),
         Row(Call::Lay { from: 4, to: 3 }, 30, 2, 2),
         Row(Call::Lay { from: 4, to: 3 }, 0, 0, 0),
@@ -172,7 +305,15 @@ fn on_a_row(rt: LibcRuntime) -> Result<(), Fail> {
 fn in_as_another_has_left(rt: LibcRuntime) -> Result<(), Fail> {
     let mut site = Site::open(Plot::new(rt.alloc())?, square(3, 3)?, settings(2, 1, 3)?);
     let rows = [
-        Row(Call::Enter { column: 1, block: true }, 0, 0, 3),
+        Row(
+            Call::Enter {
+                column: 1,
+                block: true,
+            },
+            0,
+            0,
+            3,
+        ),
         Row(Call::Lay { from: 1, to: 4 }, 0, 0, 2),
     ];
     follow(&mut site, &rows)?;
@@ -180,9 +321,33 @@ fn in_as_another_has_left(rt: LibcRuntime) -> Result<(), Fail> {
     let rows = [
         Row(Call::Tick, 0, 0, 0),
         Row(Call::Leave { column: 1 }, 0, 0, 2),
-        Row(Call::Enter { column: 1, block: false }, 27, 0, 0),
-        Row(Call::Enter { column: 3, block: false }, 29, 0, 1),
-        Row(Call::Enter { column: 1, block: false }, 0, 0, 3),
+        Row(
+            Call::Enter {
+                column: 1,
+                block: false,
+            },
+            27,
+            0,
+            0,
+        ),
+        Row(
+            Call::Enter {
+                column: 3,
+                block: false,
+            },
+            29,
+            0,
+            1,
+        ),
+        Row(
+            Call::Enter {
+                column: 1,
+                block: false,
+            },
+            0,
+            0,
+            3,
+        ),
         Row(Call::Lift { from: 1, to: 4 }, 0, 0, 2),
     ];
     follow(&mut site, &rows)?;

@@ -1,14 +1,13 @@
 -- A search along the links of a column is a search over all columns that are linked with it. Assumes nothing.
 use mathlib.Core.Path.{_≡_, refl, sym, ap, _∙_}
 use mathlib.Core.Bool.{Bool, true, false, cond, _&&_}
-use mathlib.Core.List.{List, [], _∷_, _++_, map}
-use mathlib.Core.Logic.{⊎-elim, _⊎_, inl, inr}
-use Prim.Native.Nat.{ℕ, zero, suc, _+_, _≤_, _<_}
+use mathlib.Core.List.{List, [], _∷_, _++_}
+use mathlib.Core.Logic.{⊎-elim, _⊎_}
+use Prim.Native.Nat.{ℕ, zero, suc, _+_, _≤_}
 use native.Mathlib.Omega.{arith}
 use native.Mathlib.Numerals.{add-one}
 use lib.ListN.{length, drop, getD}
 use Rattle.std.specs.Iters.{counting}
-use Rattle.std.specs.Options.{isSome}
 use Rattle.std.specs.shelf.Lists.{kept-by}
 use Rattle.std.specs.shelf.Maps.{nth}
 use Rattle.std.specs.declared.option.Option.{Option}
@@ -16,11 +15,10 @@ use Rattle.std.specs.declared.option.Option.the-variants.{Some, None}
 use Rattle.std.proofs.shelf.Counted.{map-counting-more}
 use Rattle.std.proofs.shelf.Lists.{drop-all, drop-more, map-id}
 use Rattle.std.proofs.shelf.Maps.{nth-getD, nth-past}
-use Rattle.std.proofs.shelf.Tests.{cases-lt, cases-bool, eqb-true, eq-eqb, both-ways, and-parts, and-from}
-use lib.Dec.{eqb}
-use Rattle.ground.specs.Meaning.{Meaning, Lawful, neighbours}
+use Rattle.std.proofs.shelf.Tests.{cases-lt}
+use Rattle.ground.specs.Meaning.{Meaning, neighbours}
 use Rattle.ways.specs.Table.{first-below, or-at}
-use Rattle.ways.proofs.Firsts.{none≢some, first-some, first-there}
+use Rattle.ways.proofs.Firsts.{none≢some}
 
 -- the first of a list that passes a test
 abbrev pub first-in : (ℕ → Bool) → List ℕ → Option ℕ

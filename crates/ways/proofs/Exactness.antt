@@ -1,7 +1,7 @@
 -- The table after as many rounds as there are columns is exact: each label is the least number of steps of a way home,
 -- and a column with a way home has a label. Assumes nothing.
 use mathlib.Core.Path.{_≡_, refl, sym, ap, subst, _∙_}
-use mathlib.Core.Bool.{Bool, true, false}
+use mathlib.Core.Bool.{true, false}
 use mathlib.Core.Logic.{_⊎_, inl, inr}
 use Prim.Native.Nat.{ℕ, zero, suc, _≤_, _<_}
 use native.Mathlib.Omega.{arith}
@@ -9,14 +9,14 @@ use native.Mathlib.Decide.{le-ind}
 use Rattle.std.specs.Options.{isSome}
 use Rattle.std.specs.declared.option.Option.{Option}
 use Rattle.std.specs.declared.option.Option.the-variants.{Some, None}
-use Rattle.std.proofs.shelf.Tests.{cases-lt, cases-eq, false≢true}
+use Rattle.std.proofs.shelf.Tests.{cases-eq, false≢true}
 use Rattle.ground.specs.Meaning.{Meaning, Lawful}
 use Rattle.ways.specs.Way.{Relief, Way, Fewest, Steps-home}
 use Rattle.ways.specs.Way.Way.{home, onward}
 use Rattle.ways.specs.Table.{label, after, steps}
 use Rattle.ways.proofs.Counts.{count, count-le, count-more}
 use Rattle.ways.proofs.Firsts.{none≢some}
-use Rattle.ways.proofs.Rounds.{Fresh, inside, past, first-is, first-gains, round-is, stays, round-gains}
+use Rattle.ways.proofs.Rounds.{Fresh, inside, first-is, first-gains, round-is, stays, round-gains}
 
 label-of : (o : Option ℕ) → isSome o ≡ true → (n : ℕ) × (o ≡ Some n)
 label-of None e = absurd (false≢true e)

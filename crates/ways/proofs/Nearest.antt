@@ -1,5 +1,5 @@
 -- A column that is not yet home has a lowest column beside it that is one step nearer. Assumes nothing.
-use mathlib.Core.Path.{_≡_, refl, sym, ap, _∙_}
+use mathlib.Core.Path.{_≡_, ap, _∙_}
 use mathlib.Core.Bool.{Bool, true}
 use mathlib.Core.Logic.{_⊎_, inl, inr}
 use Prim.Native.Nat.{ℕ, suc, _≤_, _<_}
@@ -8,11 +8,11 @@ use Rattle.std.specs.declared.option.Option.the-variants.{Some}
 use Rattle.std.proofs.shelf.Tests.{cases-lt, both-ways}
 use Rattle.ground.specs.Meaning.{Meaning, Lawful}
 use Rattle.ways.specs.Way.{Relief, Beside, Near}
-use Rattle.ways.specs.Table.{label, after, steps, lower, lowest-beside, nearer, nearer-by}
+use Rattle.ways.specs.Table.{label, after, steps, lower, nearer, nearer-by}
 use Rattle.ways.proofs.Firsts.{first-some, first-there}
 use Rattle.ways.proofs.Tests.{Lower, lower-decides}
 use Rattle.ways.proofs.Rounds.{Fresh, round-is}
-use Rattle.ways.proofs.Exactness.{kept, stamp, ways-exact, steps-home, in-table}
+use Rattle.ways.proofs.Exactness.{kept, stamp, in-table}
 
 pub record Nearest (m : Meaning) (r : Relief) (n c d : ℕ) : Type 0 where
   pub is : nearer m (r .heights) (steps m r) c ≡ Some d

@@ -1,4 +1,4 @@
-use mathlib.Core.Path.{_≡_, ap, _∙_}
+use mathlib.Core.Path.{ap, _∙_}
 use native.Mathlib.Omega.{arith}
 use lib.ListN.{set, getD}
 use Rattle.std.proofs.shelf.Lists.{getD-default, take-all, drop-all, append-nil}

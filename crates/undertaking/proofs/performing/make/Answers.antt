@@ -1,4 +1,4 @@
-use mathlib.Core.Path.{_≡_, sym, ap, _∙_}
+use mathlib.Core.Path.{sym, ap, _∙_}
 use Rattle.gate.specs.Gate.{step}
 use Rattle.gate.specs.View.{sceneOf}
 use Rattle.undertaking.specs.Runs.{reply}

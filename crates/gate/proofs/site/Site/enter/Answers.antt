@@ -1,11 +1,10 @@
-use mathlib.Core.Path.{_≡_, refl, ap, _∙_}
+use mathlib.Core.Path.{refl, ap, _∙_}
 use Rattle.std.specs.declared.option.Option.the-variants.{Some, None}
 use Rattle.terms.specs.Refusals.{toldOf}
 use Rattle.gate.specs.declared.call.Call.the-variants.{Enter}
 use Rattle.gate.specs.declared.column.Part.the-variants.{Entering}
 use Rattle.gate.specs.declared.column.State.the-variants.{Busy}
 use Rattle.gate.specs.Scene.{put, with-columns}
-use Rattle.gate.specs.Gate.{grant}
 use Rattle.gate.specs.View.{sceneOf}
 use Rattle.gate.proofs.Deciding.{performed}
 use Rattle.gate.proofs.site.Site.enter.Needs as need

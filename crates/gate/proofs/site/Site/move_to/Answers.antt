@@ -1,10 +1,9 @@
-use mathlib.Core.Path.{_≡_, refl, ap, _∙_}
+use mathlib.Core.Path.{refl, ap, _∙_}
 use Rattle.std.specs.declared.option.Option.the-variants.{Some, None}
 use Rattle.terms.specs.Refusals.{toldOf}
 use Rattle.gate.specs.declared.call.Call.the-variants.{Move}
 use Rattle.gate.specs.declared.column.Column.{Column}
 use Rattle.gate.specs.declared.column.Part.the-variants.{Departing}
-use Rattle.gate.specs.declared.column.State.the-variants.{Busy}
 use Rattle.gate.specs.Column.{carries}
 use Rattle.gate.specs.Scene.{begin, with-columns}
 use Rattle.gate.specs.Gate.{duration}

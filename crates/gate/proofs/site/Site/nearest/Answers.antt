@@ -1,4 +1,4 @@
-use mathlib.Core.Path.{_≡_, sym, ap, _∙_}
+use mathlib.Core.Path.{sym, ap, _∙_}
 use native.Mathlib.Numerals.{add-one}
 use Rattle.std.specs.Of.Vec.{vec-items}
 use Rattle.ways.specs.View.{stepsIn}

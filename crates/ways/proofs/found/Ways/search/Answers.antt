@@ -1,12 +1,7 @@
-use mathlib.Core.Path.{_≡_, refl, sym, ap, subst, _∙_}
-use Prim.Native.Nat.{ℕ, suc, _+_}
+use mathlib.Core.Path.{sym, ap, _∙_}
 use native.Mathlib.Omega.{arith}
 use native.Mathlib.Numerals.{add-one}
-use Rattle.std.specs.declared.option.Option.the-variants.{None}
-use Rattle.std.specs.declared.option.Option.{Option}
-use Rattle.std.proofs.shelf.Lists.{getD-replicate, getD-past, length-replicate}
-use Rattle.ways.specs.Way.{Steps-home}
-use Rattle.ways.specs.Table.{Table, label, after, steps}
+use Rattle.ways.specs.Table.{label, after}
 use Rattle.ways.specs.View.{relief-by}
 use Rattle.ways.proofs.Exactness.{steps-home}
 use Rattle.ways.proofs.InPlace.{started, rounded, all-rounds, ended-early}

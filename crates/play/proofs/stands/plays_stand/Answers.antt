@@ -1,6 +1,6 @@
 use Rattle.play.proofs.Standing.{plays-stand}
-use Rattle.play.proofs.plays_stand.Needs as need
+use Rattle.play.proofs.stands.plays_stand.Needs as need
 
--- src/lib.rt:5:1
+-- src/stands.rt:4:1
 pub returns : need.returns
 returns c = plays-stand
