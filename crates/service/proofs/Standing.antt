@@ -29,13 +29,13 @@ use Rattle.undertaking.proofs.Undertaken.{undertaken}
 use Rattle.plan.specs.Judged.{Timed}
 use Rattle.plan.specs.Plan.{Action}
 use Rattle.plan.specs.Rules.{Rules}
-use Rattle.play.specs.Play.{Outcome, play}
+use Rattle.play.specs.Play.{Fresh, Outcome, is-fresh, play, play-on}
 use Rattle.play.specs.Stands.{Comes, Usable}
 use Rattle.play.proofs.Standing.{plays-stand}
-use Rattle.service.specs.Deeds.{All-relate, Deed, Unused, answers, fresh, outcome, runs, unfolds}
+use Rattle.service.specs.Deeds.{All-relate, Deed, replies-to, runs, calls-by-all}
 use Rattle.service.specs.Whole.{Whole, Whole-stands}
 use Rattle.service.proofs.Unfolding.{runs-run}
-use Rattle.service.proofs.Freshness.{fresh-decides, fresh-so}
+use Rattle.service.proofs.Freshness.{blank-so}
 use Rattle.service.proofs.Related.{all-relate}
 
 timed : (s : Site-settings) → Proper s → Timed s
@@ -53,32 +53,32 @@ usable s ok = record { timed = timed s ok; low = omega (arith, ok .few-levels) }
 module _ (m : Meaning) (s : Site-settings) (law : Lawful m) (ok : Proper s) where
   -- what comes of an accepted plan, of a site
   abbrev Plays-well : Scene → Type 0
-  Plays-well v = Unused v → (plan : List Action) (targets : ℕ → ℕ) → Rules m s plan targets → Comes m s plan targets (outcome v plan)
+  Plays-well v = Fresh v → (plan : List Action) (targets : ℕ → ℕ) → Rules m s plan targets → Comes m s plan targets (play-on plan v)
 
   plays-well : (xs : Columns) → Kept m s xs → Plays-well (scene m s xs)
-  plays-well xs k unused plan targets rules =
+  plays-well xs k fresh plan targets rules =
       let v = scene m s xs in
       let C : Outcome → Type 0 = Comes m s plan targets in
-      let is : outcome v plan ≡ play plan 0 v = cond-true (fresh v) (play plan 0 v) (record { answer = Some (told NotFresh 0 0); site = v }) (fresh-decides v .1 unused) in
-      subst C (sym is) (plays-stand .comes v plan targets law (usable s ok) rules (fresh-so m s law ok xs k unused))
+      let is : play-on plan v ≡ play plan 0 v = cond-true (is-fresh v) (play plan 0 v) (record { answer = Some (told NotFresh 0 0); site = v }) (plays-stand .fresh-words v .1 fresh) in
+      subst C (sym is) (plays-stand .comes v plan targets law (usable s ok) rules (blank-so m s law ok xs k fresh))
 
   module _ (ds : List Deed) where
-    is : runs (opened m s) ds ≡ run (opened m s) (unfolds (opened m s) ds)
+    is : runs (opened m s) ds ≡ run (opened m s) (calls-by-all (opened m s) ds)
     is = runs-run ds (opened m s)
 
-    under : Undertaking m s (unfolds (opened m s) ds) (replies (opened m s) (unfolds (opened m s) ds)) (run (opened m s) (unfolds (opened m s) ds))
-    under = undertaken m s law ok (unfolds (opened m s) ds)
+    under : Undertaking m s (calls-by-all (opened m s) ds) (replies (opened m s) (calls-by-all (opened m s) ds)) (run (opened m s) (calls-by-all (opened m s) ds))
+    under = undertaken m s law ok (calls-by-all (opened m s) ds)
 
     -- what holds after the calls holds after the deeds
-    of-calls : (P : Scene → Type 0) → P (run (opened m s) (unfolds (opened m s) ds)) → P (runs (opened m s) ds)
+    of-calls : (P : Scene → Type 0) → P (run (opened m s) (calls-by-all (opened m s) ds)) → P (runs (opened m s) ds)
     of-calls P h = subst P (sym is) h
 
-    kept : Kept m s (run-columns m s (opening m) (unfolds (opened m s) ds))
-    kept = kept-run m s law ok (opening m) (kept-opening m s ok) (unfolds (opened m s) ds)
+    kept : Kept m s (run-columns m s (opening m) (calls-by-all (opened m s) ds))
+    kept = kept-run m s law ok (opening m) (kept-opening m s ok) (calls-by-all (opened m s) ds)
 
-    by-columns : run (opened m s) (unfolds (opened m s) ds) ≡ scene m s (run-columns m s (opening m) (unfolds (opened m s) ds))
+    by-columns : run (opened m s) (calls-by-all (opened m s) ds) ≡ scene m s (run-columns m s (opening m) (calls-by-all (opened m s) ds))
     by-columns =
-        ap (λ (v : Scene). run v (unfolds (opened m s) ds)) (opened-scene m s) ∙ run-scene m s law ok (unfolds (opened m s) ds) (opening m) (kept-opening m s ok)
+        ap (λ (v : Scene). run v (calls-by-all (opened m s) ds)) (opened-scene m s) ∙ run-scene m s law ok (calls-by-all (opened m s) ds) (opening m) (kept-opening m s ok)
 
     abbrev Clearing : Scene → Type 0
     Clearing v = (n : ℕ) → Quiet (after-ticks n v .columns)
@@ -90,18 +90,18 @@ module _ (m : Meaning) (s : Site-settings) (law : Lawful m) (ok : Proper s) wher
         → t ≤ tally toil-of (after-ticks n v) more
 
     abbrev Balanced : Scene → Type 0
-    Balanced v = tally brought-by (opened m s) (unfolds (opened m s) ds)
-        ≡ tally out-by (opened m s) (unfolds (opened m s) ds) + (blocks-standing m (v .columns) + blocks-carried m (v .columns))
+    Balanced v = tally brought-by (opened m s) (calls-by-all (opened m s) ds)
+        ≡ tally out-by (opened m s) (calls-by-all (opened m s) ds) + (blocks-standing m (v .columns) + blocks-carried m (v .columns))
 
-    relate : All-relate (opened m s) ds (answers (opened m s) ds) (runs (opened m s) ds)
+    relate : All-relate (opened m s) ds (replies-to (opened m s) ds) (runs (opened m s) ds)
     relate =
-        let P : Scene → Type 0 = λ v. All-relate v ds (answers v ds) (runs v ds) in
+        let P : Scene → Type 0 = λ v. All-relate v ds (replies-to v ds) (runs v ds) in
         subst P (sym (opened-scene m s)) (all-relate m s law ok ds (opening m) (kept-opening m s ok))
 
     fewest : Fewest-calls (runs (opened m s) ds)
     fewest = of-calls Fewest-calls (under .least)
 
-    pub whole : Whole m s ds (answers (opened m s) ds) (runs (opened m s) ds)
+    pub whole : Whole m s ds (replies-to (opened m s) ds) (runs (opened m s) ds)
     whole =
         record {
           is-run = refl;
@@ -117,10 +117,10 @@ module _ (m : Meaning) (s : Site-settings) (law : Lawful m) (ok : Proper s) wher
           least = λ n t q l more h z.
               let w = after-ticks n (runs (opened m s) ds) in
               let E : Scene → Type 0 = λ v. Empty (v .columns) in
-              fewest n t q l (unfolds w more) (subst E (runs-run more w) h) z;
+              fewest n t q l (calls-by-all w more) (subst E (runs-run more w) h) z;
           apart = of-calls (λ v. (r q c : ℕ) → Holds (v .columns) r c → Holds (v .columns) q c → r ≡ q) (under .apart);
           blocks = of-calls Balanced (under .blocks);
-          plays = subst Plays-well (sym (is ∙ by-columns)) (plays-well (run-columns m s (opening m) (unfolds (opened m s) ds)) kept);
+          plays = subst Plays-well (sym (is ∙ by-columns)) (plays-well (run-columns m s (opening m) (calls-by-all (opened m s) ds)) kept);
         }
 
 pub whole-stands : Whole-stands

@@ -14,8 +14,8 @@ use Rattle.gate.specs.Scene.{Scene}
 use Rattle.gate.specs.Gate.{grant, refusal, settle, step}
 use Rattle.undertaking.specs.Runs.{run}
 use Rattle.plan.specs.Plan.{Action}
-use Rattle.play.specs.Play.{Outcome, call-of, called, longest, play, ready, refusal-of, ticks, unless}
-use Rattle.service.specs.Deeds.{Deed, calls-of, done, fresh, if-made, runs, unfold, unfolds, unless-refused}
+use Rattle.play.specs.Play.{Outcome, call-of, called, is-fresh, longest, play, ready, refusal-of, ticks, unless}
+use Rattle.service.specs.Deeds.{Deed, calls-of, done, if-made, runs, calls-by, calls-by-all, unless-refused}
 
 pub run-append : (ks ls : List Call) (v : Scene) → run v (ks ++ ls) ≡ run (run v ks) ls
 run-append [] ls v = refl
@@ -37,7 +37,7 @@ module _ (line : ℕ) (u : Scene) (on : Scene → Outcome) (more : Scene → Lis
   from-start (Some k) = decided k (refusal u k) refl
 
 pub calls-play : (actions : List Action) (now : ℕ) (v : Scene) → run v (calls-of actions now v) ≡ play actions now v .site
-calls-play [] now v = run-ticks (longest (v .columns)) v
+calls-play [] now v = run-ticks (longest (v .columns) 256) v
 calls-play (a ∷ rest) now v =
     let u = ready a now v in
     let later = if-made (call-of a) ++ unless-refused (refusal-of u (call-of a)) (calls-of rest (a .start) (called u (call-of a))) in
@@ -45,17 +45,17 @@ calls-play (a ∷ rest) now v =
     ∙ ap (λ (w : Scene). run w later) (run-ticks (a .start - now) v)
     ∙ from-start (a .line) u (play rest (a .start)) (calls-of rest (a .start)) (λ w. calls-play rest (a .start) w) (call-of a)
 
-pub done-run : (v : Scene) (d : Deed) → done v d ≡ run v (unfold v d)
+pub done-run : (v : Scene) (d : Deed) → done v d ≡ run v (calls-by v d)
 done-run v (Deed.call k) = refl
-done-run v (Deed.plays actions) = go (fresh v)
+done-run v (Deed.plays actions) = go (is-fresh v)
   where
     go : (b : Bool) → cond b (play actions 0 v) (record { answer = Some (told NotFresh 0 0); site = v }) .site ≡ run v (cond b (calls-of actions 0 v) [])
     go true = sym (calls-play actions 0 v)
     go false = refl
 
-pub runs-run : (ds : List Deed) (v : Scene) → runs v ds ≡ run v (unfolds v ds)
+pub runs-run : (ds : List Deed) (v : Scene) → runs v ds ≡ run v (calls-by-all v ds)
 runs-run [] v = refl
 runs-run (d ∷ ds) v =
     runs-run ds (done v d)
-    ∙ ap (λ (w : Scene). run w (unfolds (done v d) ds)) (done-run v d)
-    ∙ sym (run-append (unfold v d) (unfolds (done v d) ds) v)
+    ∙ ap (λ (w : Scene). run w (calls-by-all (done v d) ds)) (done-run v d)
+    ∙ sym (run-append (calls-by v d) (calls-by-all (done v d) ds) v)
