@@ -8,9 +8,7 @@ use Rattle.std.proofs.shelf.Tests.{cond-true}
 use Rattle.std.specs.declared.option.Option.the-variants.{Some}
 use Rattle.terms.specs.Durations.{Site-settings}
 use Rattle.terms.specs.Refusals.{told}
-use Rattle.terms.specs.View.{settingsOf}
 use Rattle.terms.specs.declared.refusal.Rule.the-variants.{NotFresh}
-use Rattle.terms.specs.declared.settings.Settings.{Settings}
 use Rattle.terms.specs.declared.work.Work.the-variants.{Entry, Leave, Wait, Move, PickUp, Deliver}
 use Rattle.ground.specs.Meaning.{Lawful, Meaning}
 use Rattle.gate.specs.declared.call.Call.{Call}
@@ -23,7 +21,6 @@ use Rattle.undertaking.proofs.Plain.{Proper, opening}
 use Rattle.undertaking.proofs.Plain.{run as run-columns}
 use Rattle.undertaking.proofs.Kept.{Kept}
 use Rattle.undertaking.proofs.Calls.{kept-opening, kept-run}
-use Rattle.undertaking.proofs.Making.{proper}
 use Rattle.undertaking.proofs.Scenes.{opened-scene, run-scene, scene}
 use Rattle.undertaking.proofs.Undertaken.{undertaken}
 use Rattle.plan.specs.Judged.{Timed}
@@ -33,7 +30,7 @@ use Rattle.play.specs.Play.{Fresh, Outcome, is-fresh, play, play-on}
 use Rattle.play.specs.Stands.{Comes, Usable}
 use Rattle.play.proofs.Standing.{plays-stand}
 use Rattle.service.specs.Deeds.{All-relate, Deed, replies-to, runs, calls-by-all}
-use Rattle.service.specs.Whole.{Whole, Whole-stands}
+use Rattle.service.specs.Whole.{Whole}
 use Rattle.service.proofs.Unfolding.{runs-run}
 use Rattle.service.proofs.Freshness.{blank-so}
 use Rattle.service.proofs.Related.{all-relate}
@@ -122,6 +119,3 @@ module _ (m : Meaning) (s : Site-settings) (law : Lawful m) (ok : Proper s) wher
           blocks = of-calls Balanced (under .blocks);
           plays = subst Plays-well (sym (is ∙ by-columns)) (plays-well (run-columns m s (opening m) (calls-by-all (opened m s) ds)) kept);
         }
-
-pub whole-stands : Whole-stands
-whole-stands m s law ds = whole m (settingsOf s) law (proper s) ds

@@ -3,9 +3,7 @@ use mathlib.Core.Path.{_≡_}
 use mathlib.Core.List.{List, _++_}
 use Prim.Native.Nat.{ℕ, _+_, _≤_}
 use Rattle.terms.specs.Durations.{Site-settings}
-use Rattle.terms.specs.View.{settingsOf}
-use Rattle.terms.specs.declared.settings.Settings.{Settings}
-use Rattle.ground.specs.Meaning.{Lawful, Meaning}
+use Rattle.ground.specs.Meaning.{Meaning}
 use Rattle.gate.specs.declared.call.Call.{Call}
 use Rattle.gate.specs.Scene.{Scene, blocks-carried, blocks-standing, opened, relief}
 use Rattle.undertaking.specs.Runs.{Reply, after-ticks, brought-by, building-of, out-by, replies, run, tally, toil-of}
@@ -44,8 +42,3 @@ pub record Whole (m : Meaning) (s : Site-settings) (deeds : List Deed) (answers 
       ≡ tally out-by (opened m s) (calls-by-all (opened m s) deeds) + (blocks-standing m (v .columns) + blocks-carried m (v .columns))
   -- on a fresh site, a plan that keeps the rules is stopped where it first strands a robot, and nowhere else
   pub plays : Fresh v → (plan : List Action) (targets : ℕ → ℕ) → Rules m s plan targets → Comes m s plan targets (play-on plan v)
-
--- of every lawful ground, all settings and every list of the eight calls
-abbrev pub Whole-stands : Type 0
-Whole-stands = (m : Meaning) (s : Settings) → Lawful m → (deeds : List Deed)
-    → Whole m (settingsOf s) deeds (replies-to (opened m (settingsOf s)) deeds) (runs (opened m (settingsOf s)) deeds)

@@ -1,9 +1,8 @@
-// What is undertaken of a site through lists of all eight calls.
-ghost use Rattle.service.specs.Whole.{Whole-stands};
+// All eight calls: a site is opened, and a whole list of them is made.
+mod deed;
+mod performing;
+mod stage;
 
-// What holds of every site that was opened and only called.
-pub fn whole_stands() -> u8
-    ensures { λ _. ⌜ Whole-stands ⌝ }
-{
-    0
-}
+pub use deed::Deed;
+pub use performing::perform;
+pub use stage::Stage;

@@ -79,7 +79,11 @@ impl Stage {
     {
         let plot = Plot::new(heap)?;
         let answers = Vec::with_capacity(heap, calls.len())?;
-        Ok(Stage { plot, calls, answers })
+        Ok(Stage {
+            plot,
+            calls,
+            answers,
+        })
     }
 }
 
