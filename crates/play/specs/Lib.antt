@@ -1,0 +1,4 @@
+pub mod Play
+pub mod Shown
+pub mod Strands
+pub mod Stands
