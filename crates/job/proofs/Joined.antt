@@ -1,5 +1,5 @@
 -- A job whose line is read and whose ground and settings are made is refused as its sheet is. Assumes nothing.
-use mathlib.Core.Path.{_≡_, refl, ap, sym, _∙_}
+use mathlib.Core.Path.{_≡_, refl, ap, subst, sym, _∙_}
 use mathlib.Core.List.{List}
 use Prim.Native.Nat.{ℕ}
 use Rattle.std.specs.declared.option.Option.{Option}
@@ -12,9 +12,11 @@ use Rattle.terms.specs.Refusals.{Answers, Told, first-of, or-else}
 use Rattle.terms.specs.declared.refusal.Refusal.{Refusal}
 use Rattle.ground.specs.Meaning.{Meaning}
 use Rattle.ground.specs.Squared.{squared}
-use Rattle.sheet.specs.Reading.{reading-refusal}
-use Rattle.sheet.specs.View.{records-in, sheetOf}
-use Rattle.sheet.specs.declared.sheet.Sheet.{Sheet}
+use Rattle.sheet.specs.View.{Records, records-in}
+use Rattle.judge.specs.Judging.{judging-refusal}
+use Rattle.judge.specs.Verdict.{Accepts}
+use Rattle.judge.specs.View.{acceptanceOf}
+use Rattle.judge.specs.declared.accepted.Accepted.{Accepted}
 use Rattle.job.specs.Jobs.{job-refusal, making-refusal, order, order-tests, sheet-in, sheet-refusal}
 use Rattle.job.specs.declared.order.Order.{Order}
 
@@ -32,18 +34,18 @@ module _ (input : List ℕ) where
   pub making-refuses : (o : Order) (t : Told) → first-of (order-tests input) ≡ None → order input ≡ Ok o → making-refusal (Ok o) ≡ Some t → job-refusal input ≡ Some t
   making-refuses o t none e made = past-line o none e ∙ ap (λ (x : Option Told). or-else x (sheet-refusal (Ok o) (sheet-in input))) made
 
-  pub sheet-decides : (o : Order) (m : Meaning) (s : Site-settings) (sheet : List ℕ) (r : Result Sheet Refusal) → first-of (order-tests input) ≡ None → order input ≡ Ok o → making-refusal (Ok o) ≡ None
+  pub sheet-decides : (o : Order) (m : Meaning) (s : Site-settings) (sheet : List ℕ) (r : Result Accepted Refusal) → first-of (order-tests input) ≡ None → order input ≡ Ok o → making-refusal (Ok o) ≡ None
       → m ≡ squared (o .x) (o .y) → s ≡ settings-from (o .levels) (o .robots) (o .set) → sheet ≡ sheet-in input
-      → Answers (reading-refusal m s sheet) (λ x. sheetOf x ≡ records-in sheet) r → Answers (job-refusal input) (λ x. sheetOf x ≡ records-in (sheet-in input)) r
+      → Answers (judging-refusal m s sheet) (λ x. Accepts (records-in sheet) (acceptanceOf x)) r → Answers (job-refusal input) (λ x. Accepts (records-in (sheet-in input)) (acceptanceOf x)) r
   sheet-decides o m s sheet r none e made em es el a = answer r a
     where
-      same : job-refusal input ≡ reading-refusal m s sheet
+      same : job-refusal input ≡ judging-refusal m s sheet
       same =
           past-line o none e ∙ ap (λ (x : Option Told). or-else x (sheet-refusal (Ok o) (sheet-in input))) made
-          ∙ ap (λ (l : List ℕ). reading-refusal (squared (o .x) (o .y)) (settings-from (o .levels) (o .robots) (o .set)) l) (sym el)
-          ∙ ap (λ (x : Site-settings). reading-refusal (squared (o .x) (o .y)) x sheet) (sym es)
-          ∙ ap (λ (x : Meaning). reading-refusal x s sheet) (sym em)
+          ∙ ap (λ (l : List ℕ). judging-refusal (squared (o .x) (o .y)) (settings-from (o .levels) (o .robots) (o .set)) l) (sym el)
+          ∙ ap (λ (x : Site-settings). judging-refusal (squared (o .x) (o .y)) x sheet) (sym es)
+          ∙ ap (λ (x : Meaning). judging-refusal x s sheet) (sym em)
 
-      answer : (r : Result Sheet Refusal) → Answers (reading-refusal m s sheet) (λ x. sheetOf x ≡ records-in sheet) r → Answers (job-refusal input) (λ x. sheetOf x ≡ records-in (sheet-in input)) r
-      answer (Ok v) b = (same ∙ b .0, b .1 ∙ ap records-in el)
+      answer : (r : Result Accepted Refusal) → Answers (judging-refusal m s sheet) (λ x. Accepts (records-in sheet) (acceptanceOf x)) r → Answers (job-refusal input) (λ x. Accepts (records-in (sheet-in input)) (acceptanceOf x)) r
+      answer (Ok v) b = (same ∙ b .0, subst (λ (l : List ℕ). Accepts (records-in l) (acceptanceOf v)) el (b .1))
       answer (Err f) b = same ∙ b

@@ -16,8 +16,8 @@ use Rattle.terms.specs.declared.refusal.Rule.the-variants.{SheetShape, LineShap
 use Rattle.ground.specs.Squared.{square-refusal, squared}
 use Rattle.sheet.specs.Fields.{numberIn}
 use Rattle.sheet.specs.Lines.{fields, spelt}
-use Rattle.sheet.specs.Reading.{reading-refusal}
 use Rattle.sheet.specs.Records.{field, part}
+use Rattle.judge.specs.Judging.{judging-refusal}
 use Rattle.job.specs.declared.order.Order.{Order}
 
 -- x, y, levels, robots and duration set, each six wide
@@ -55,10 +55,10 @@ abbrev pub making-refusal : Result Order ℕ → Option Told
 making-refusal (Err k) = None
 making-refusal (Ok o) = or-else (square-refusal (o .x) (o .y)) (settings-refusal (o .levels) (o .robots) (o .set))
 
--- why the sheet of a job is refused
+-- why the sheet of a job is refused: it cannot be read, or it breaks a rule
 abbrev pub sheet-refusal : Result Order ℕ → List ℕ → Option Told
 sheet-refusal (Err k) sheet = None
-sheet-refusal (Ok o) sheet = reading-refusal (squared (o .x) (o .y)) (settings-from (o .levels) (o .robots) (o .set)) sheet
+sheet-refusal (Ok o) sheet = judging-refusal (squared (o .x) (o .y)) (settings-from (o .levels) (o .robots) (o .set)) sheet
 
 -- the sheet behind the job line
 abbrev pub sheet-in : List ℕ → List ℕ

@@ -1,3 +1,4 @@
 pub mod Text
 pub mod Jobs
 pub mod Replies
+pub mod Words

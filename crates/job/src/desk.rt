@@ -2,7 +2,7 @@
 ghost use mathlib.Core.Path.{_≡_};
 ghost use Prim.Native.Nat.{_≤_};
 ghost use Rattle.std.specs.Of.Vec.{vec-cap, vec-len};
-use sheet::Room;
+use judge::Room;
 
 #[derive(Drop)]
 pub struct Desk {

@@ -1,4 +1,4 @@
-// A job's ground and settings, and the reading of its sheet.
+// A job's ground and settings, and the judging of its sheet.
 ghost use mathlib.Core.Path.{_≡_};
 ghost use Rattle.std.specs.declared.result.Result.the-variants.{Ok};
 ghost use Rattle.terms.specs.Ranges.{settings-from};
@@ -6,15 +6,17 @@ ghost use Rattle.terms.specs.Refusals.{Answers};
 ghost use Rattle.terms.specs.View.{settingsOf};
 ghost use Rattle.ground.specs.Squared.{squared};
 ghost use Rattle.ground.specs.View.{squareOf};
-ghost use Rattle.sheet.specs.View.{records-in, sheetOf};
+ghost use Rattle.sheet.specs.View.{records-in};
+ghost use Rattle.judge.specs.Verdict.{Accepts};
+ghost use Rattle.judge.specs.View.{acceptanceOf};
 ghost use Rattle.job.specs.Jobs.{job-refusal, making-refusal, sheet-in};
 use crate::line::read_order;
 use crate::order::Order;
 use ground::Square;
 use ground::SquareGround;
-use sheet::Room;
-use sheet::Sheet;
-use sheet::read_sheet;
+use judge::Accepted;
+use judge::Room;
+use judge::judge;
 use terms::Refusal;
 use terms::Settings;
 
@@ -38,9 +40,9 @@ fn open_job(order: Order) -> Result<Job, Refusal>
     }
 }
 
-// Reads a job: its line, and the sheet behind it.
-pub(crate) fn read_job(input: &[u8], room: Room) -> Result<Sheet, Refusal>
-    ensures { λ r. ⌜ Answers (job-refusal (now (input .entry))) (λ s. sheetOf s ≡ records-in (sheet-in (now (input .entry)))) r ⌝ }
+// Judges a job: its line, and the sheet behind it.
+pub(crate) fn judge_job(input: &[u8], room: Room) -> Result<Accepted, Refusal>
+    ensures { λ r. ⌜ Answers (job-refusal (now (input .entry))) (λ a. Accepts (records-in (sheet-in (now (input .entry)))) (acceptanceOf a)) r ⌝ }
 {
     let order = match read_order(input) {
         Ok(order) => order,
@@ -50,5 +52,5 @@ pub(crate) fn read_job(input: &[u8], room: Room) -> Result<Sheet, Refusal>
         Ok(job) => job,
         Err(refusal) => return Err(refusal),
     };
-    read_sheet(&job.ground, &job.settings, &input[35..], room)
+    judge(&job.ground, &job.settings, &input[35..], room)
 }

@@ -6,11 +6,12 @@ ghost use lib.ListN.{length};
 ghost use Rattle.std.specs.Of.Vec.{vec-cap, vec-items, vec-len};
 ghost use Rattle.std.specs.Vec.{made};
 ghost use Rattle.job.specs.Replies.{answered, row};
+ghost use Rattle.job.specs.Words.{Verdict};
 use crate::Desk;
-use crate::opened::read_job;
+use crate::opened::judge_job;
 use crate::text::put;
 use crate::text::six;
-use sheet::Room;
+use judge::Room;
 use std::alloc::AllocError;
 use std::alloc::Global;
 
@@ -29,7 +30,7 @@ impl Desk {
 }
 
 // Adds a word and three numbers, six wide each, and a newline.
-fn put_row(text: &mut Vec<u8>, word: &[u8], a: u32, b: u32, c: u32)
+fn put_row(text: &mut Vec<u8>, word: &[u8], a: u64, b: u64, c: u64)
     requires { ⌜ length (now word) ≡ 4 ⌝ ∗ ⌜ vec-len (now text) + 23 ≤ vec-cap (now text) ⌝ }
     ensures { λ _. ⌜ vec-items (now (text .exit)) ≡ vec-items (now (text .entry)) ++ row (now (word .entry)) a b c ⌝ }
 {
@@ -40,25 +41,26 @@ fn put_row(text: &mut Vec<u8>, word: &[u8], a: u32, b: u32, c: u32)
     put(text, b"\n");
 }
 
-// The answer to a job: what was read, or the first fault.
+// The answer to a job: the figures of its plan, or the first fault.
 pub fn answer(input: &[u8], desk: Desk) -> Vec<u8>
-    ensures { λ r. ⌜ vec-items r ≡ answered (now (input .entry)) ⌝ }
+    ensures value { λ r. ⌜ vec-items r ≡ answered (now (input .entry)) ⌝ }
+    ensures words { λ r. ⌜ Verdict (now (input .entry)) (vec-items r) ⌝ }
 {
     let Desk { room, mut text } = desk;
-    match read_job(input, room) {
-        Ok(sheet) => put_row(
+    match judge_job(input, room) {
+        Ok(plan) => put_row(
             &mut text,
-            b"READ",
-            sheet.targets.len() as u32,
-            sheet.acts.len() as u32,
-            sheet.work(),
+            b"OK  ",
+            u64::from(plan.makespan()),
+            plan.costs(),
+            plan.most() as u64,
         ),
         Err(refusal) => put_row(
             &mut text,
             b"BAD ",
-            u32::from(refusal.rule.number()),
-            u32::from(refusal.line),
-            u32::from(refusal.detail),
+            u64::from(refusal.rule.number()),
+            u64::from(refusal.line),
+            u64::from(refusal.detail),
         ),
     }
     text

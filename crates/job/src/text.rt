@@ -7,7 +7,7 @@ ghost use Rattle.std.specs.Of.Vec.{vec-cap, vec-items, vec-len};
 ghost use Rattle.job.specs.Text.{cells, place, wide};
 
 // The digit of a number at a place of ten, or a space.
-fn digit_at(n: u32, tens: u32) -> u8
+fn digit_at(n: u64, tens: u64) -> u8
     requires { ⌜ 0 < tens ⌝ }
     ensures { λ r. ⌜ r ≡ place tens n ⌝ }
 {
@@ -19,7 +19,7 @@ fn digit_at(n: u32, tens: u32) -> u8
 }
 
 // A number justified to the right in six places.
-pub(crate) fn six(n: u32) -> [u8; 6]
+pub(crate) fn six(n: u64) -> [u8; 6]
     ensures value { λ r. ⌜ r ≡ cells n ⌝ }
     ensures words { λ r. ⌜ (n < 1000000 → r ≡ wide n) ⌝ }
 {

@@ -2,7 +2,7 @@ use Rattle.std.proofs.shelf.Lists.{take-rest}
 use Rattle.terms.specs.View.{settingsOf}
 use Rattle.ground.specs.View.{squareOf}
 use Rattle.job.proofs.Joined.{sheet-decides}
-use Rattle.job.proofs.opened.read_job.Needs as need
+use Rattle.job.proofs.opened.judge_job.Needs as need
 
 pub returns : need.returns
 returns c =
@@ -10,5 +10,5 @@ returns c =
     let job = c .in-Ok-open-job .job in
     let read = c .in-Ok .ensures tt in
     let made = c .in-Ok-open-job .ensures tt in
-    sheet-decides input (c .in-Ok .order) (squareOf (job .ground)) (settingsOf (job .settings)) _ (c .read-sheet .result) (read .0) (read .1 .0) (made .0) (made .1 .0) (made .1 .1) (take-rest input 35)
-    (c .read-sheet .ensures .value)
+    sheet-decides input (c .in-Ok .order) (squareOf (job .ground)) (settingsOf (job .settings)) _ (c .judge .result) (read .0) (read .1 .0) (made .0) (made .1 .0) (made .1 .1) (take-rest input 35)
+    (c .judge .ensures .value)

@@ -1,0 +1,5 @@
+pub mod Runs
+pub mod Obeying
+pub mod Lasting
+pub mod Undertaking
+pub mod View
