@@ -25,13 +25,7 @@ fn add(sheet: &mut Vec<u8>, line: &[u8]) -> Result<(), Fail> {
 }
 
 // Of four lines and END: the number, the line and the detail of the first broken rule, or 0, the makespan and the costs.
-fn told(
-    rt: LibcRuntime,
-    a: &[u8],
-    b: &[u8],
-    c: &[u8],
-    d: &[u8],
-) -> Result<(u16, u32, u64), Fail> {
+fn told(rt: LibcRuntime, a: &[u8], b: &[u8], c: &[u8], d: &[u8]) -> Result<(u16, u32, u64), Fail> {
     let mut sheet = Vec::new(rt.alloc());
     add(&mut sheet, a)?;
     add(&mut sheet, b)?;
