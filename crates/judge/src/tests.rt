@@ -5,30 +5,46 @@ use ground::SquareGround;
 use std::test::*;
 use terms::Settings;
 
-const GOAL: &[u8; 34] = b"GOAL     4     1                  ";
-const NOTE: &[u8; 34] = b"NOTE                              ";
-const ENTRY: &[u8; 34] = b"ACT      0     1   S  S 1 M   1  0";
-const LAY: &[u8; 34] = b"ACT      1     2   1  0 1 D   4  0";
-const LEAVE: &[u8; 34] = b"ACT      2     3   1  0 0 M   E  E";
-const END: &[u8; 34] = b"END      3                        ";
+const GOAL: &[u8] = b"GOAL     4     1                  ";
+
+const NOTE: &[u8] = b"NOTE                              ";
+
+const ENTRY: &[u8] = b"ACT      0     1   S  S 1 M   1  0";
+
+const LAY: &[u8] = b"ACT      1     2   1  0 1 D   4  0";
+
+const LEAVE: &[u8] = b"ACT      2     3   1  0 0 M   E  E";
+
+const END: &[u8] = b"END      3                        ";
+
+// Adds a line with its newline.
+fn add(sheet: &mut Vec<u8>, line: &[u8]) -> Result<(), Fail> {
+    sheet.extend_from_slice(line)?;
+    sheet.push(b'\n')?;
+    Ok(())
+}
 
 // Of four lines and END: the number, the line and the detail of the first broken rule, or 0, the makespan and the costs.
-fn told(rt: LibcRuntime, a: &[u8; 34], b: &[u8; 34], c: &[u8; 34], d: &[u8; 34]) -> Result<(u16, u32, u64), Fail> {
-    let mut sheet = [b'\n'; 175];
-    sheet[0..34].copy_from_slice(a);
-    sheet[35..69].copy_from_slice(b);
-    sheet[70..104].copy_from_slice(c);
-    sheet[105..139].copy_from_slice(d);
-    sheet[140..174].copy_from_slice(END);
+fn told(rt: LibcRuntime, a: &[u8], b: &[u8], c: &[u8], d: &[u8]) -> Result<(u16, u32, u64), Fail> {
+    let mut sheet = Vec::new(rt.alloc());
+    add(&mut sheet, a)?;
+    add(&mut sheet, b)?;
+    add(&mut sheet, c)?;
+    add(&mut sheet, d)?;
+    add(&mut sheet, END)?;
     let Ok(ground) = Square::new(3, 3) else {
         return Err(Fail::new("the ground is refused"));
     };
     let Ok(settings) = Settings::new(2, 1, 0) else {
         return Err(Fail::new("the settings are refused"));
     };
-    match judge(&ground, &settings, &sheet, Room::new(rt.alloc())?) {
+    match judge(&ground, &settings, sheet.as_slice(), Room::new(rt.alloc())?) {
         Ok(plan) => Ok((0, plan.makespan(), plan.costs())),
-        Err(refusal) => Ok((refusal.rule.number(), refusal.line as u32, refusal.detail as u64)),
+        Err(refusal) => Ok((
+            refusal.rule.number(),
+            refusal.line as u32,
+            refusal.detail as u64,
+        )),
     }
 }
 
