@@ -1,7 +1,6 @@
 // The calls that the gate grants or refuses, and the passing of time.
 ghost use mathlib.Core.Path.{_≡_};
 ghost use Prim.Native.Nat.{_≤_};
-ghost use Rattle.std.specs.Vec.{made};
 ghost use Rattle.std.specs.declared.option.Option.the-variants.{None};
 ghost use Rattle.terms.specs.Refusals.{refusalIn};
 ghost use Rattle.terms.specs.View.{settingsOf};
@@ -13,34 +12,28 @@ ghost use Rattle.gate.specs.View.{sceneOf};
 use crate::column::Column;
 use crate::column::Part;
 use crate::column::State;
+use crate::opening::lay_out;
+use crate::plot::Plot;
 use crate::site::Site;
 use crate::trial::try_change;
 use ground::Ground;
-use std::alloc::AllocError;
-use std::alloc::Global;
 use terms::Refusal;
 use terms::Rule;
 use terms::Settings;
 use terms::Work;
 
 impl<G: Ground> Site<G> {
-    // Opens a site: no robot on it, all heights 0. No other call allocates.
-    pub fn open(heap: Global, ground: G, settings: Settings) -> Result<Site<G>, AllocError>
-    where
-        G: Drop,
-        ensures { λ r. ⌜ made r (λ site. sceneOf (G·Ground .meaning) site ≡ opened (G·Ground .meaning ground) (settingsOf settings)) ⌝ }
+    // Opens a site: no robot on it, all heights 0. Its room is there already, and no later call allocates.
+    pub fn open(plot: Plot, ground: G, settings: Settings) -> Site<G>
+        ensures { λ site. ⌜ sceneOf (G·Ground .meaning) site ≡ opened (G·Ground .meaning ground) (settingsOf settings) ⌝ }
     {
-        let fresh = Column {
-            height: 0,
-            state: State::Free,
-        };
-        let columns = Vec::from_elem(heap, fresh, ground.columns() as usize)?;
-        Ok(Site {
+        let columns = lay_out(plot.columns, ground.columns());
+        Site {
             ground,
             settings,
             columns,
             marks: [0; 256],
-        })
+        }
     }
 
     // Puts a column into a state, at the height that it has.

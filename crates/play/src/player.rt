@@ -104,7 +104,7 @@ fn play_all<G: Ground>(site: &mut Site<G>, actions: &[Action]) -> Result<(), Ref
 }
 
 // Plays actions on a fresh site; any other stays as it is.
-pub(crate) fn play<G: Ground>(site: &mut Site<G>, actions: &[Action]) -> Result<(), Refusal>
+pub(crate) fn play_actions<G: Ground>(site: &mut Site<G>, actions: &[Action]) -> Result<(), Refusal>
     ensures answer { λ r. ⌜ refusalIn r ≡ play-on (planOf (now (actions .entry))) (sceneOf (G·Ground .meaning) (now (site .entry))) .answer ⌝ }
     ensures after { λ _. ⌜ sceneOf (G·Ground .meaning) (now (site .exit)) ≡ play-on (planOf (now (actions .entry))) (sceneOf (G·Ground .meaning) (now (site .entry))) .site ⌝ }
 {

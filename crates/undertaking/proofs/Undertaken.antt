@@ -43,7 +43,7 @@ module _ (m : Meaning) (s : Site-settings) (law : Lawful m) (ok : Proper s) wher
   homeward : (xs : Columns) → Kept m s xs → Homeward (scene m s xs)
   homeward xs k c l r = let w = k .ways c r in (w .0, home-of xs k (w .1))
 
-  relates : (xs : Columns) → Kept m s xs → (a : Call) → Relates (scene m s xs) a (reply (scene m s xs) a) (step-of (scene m s xs) a)
+  pub relates : (xs : Columns) → Kept m s xs → (a : Call) → Relates (scene m s xs) a (reply (scene m s xs) a) (step-of (scene m s xs) a)
   relates xs k (Enter c b) = let v = scene m s xs in (refusal v (Enter c b), refl, performed v law (Enter c b) (refusal v (Enter c b)) (step-of v (Enter c b)) refl refl)
   relates xs k (Move c d) = let v = scene m s xs in (refusal v (Move c d), refl, performed v law (Move c d) (refusal v (Move c d)) (step-of v (Move c d)) refl refl)
   relates xs k (Lay c d) = let v = scene m s xs in (refusal v (Lay c d), refl, performed v law (Lay c d) (refusal v (Lay c d)) (step-of v (Lay c d)) refl refl)

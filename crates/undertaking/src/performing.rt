@@ -6,13 +6,15 @@ ghost use Rattle.std.specs.Of.Vec.{vec-items, vec-len, vec-cap};
 ghost use Rattle.std.specs.Vec.{made};
 ghost use Rattle.terms.specs.Refusals.{refusalIn};
 ghost use Rattle.terms.specs.View.{settingsOf};
-ghost use Rattle.gate.specs.Scene.{opened};
 ghost use Rattle.gate.specs.Gate.{step};
 ghost use Rattle.gate.specs.View.{sceneOf};
 ghost use Rattle.undertaking.specs.Runs.{run, replyOf, by-refusal, reply, replies};
 ghost use Rattle.undertaking.specs.Undertaking.{Undertaking};
+ghost use Rattle.undertaking.specs.View.{callsOf};
 use crate::answer::Answer;
+use crate::stage::Stage;
 use gate::Call;
+use gate::Plot;
 use gate::Site;
 use ground::Ground;
 use std::alloc::AllocError;
@@ -28,7 +30,7 @@ pub struct Performance<G: Ground> {
 }
 
 // The answer of a call that is granted or refused.
-fn answer_of(result: Result<(), Refusal>) -> Answer
+pub fn answer_of(result: Result<(), Refusal>) -> Answer
     ensures { λ r. ⌜ replyOf r ≡ by-refusal (refusalIn result) ⌝ }
 {
     match result {
@@ -38,7 +40,7 @@ fn answer_of(result: Result<(), Refusal>) -> Answer
 }
 
 // Makes one call.
-pub(crate) fn make<G: Ground>(site: &mut Site<G>, call: Call) -> Answer
+pub fn make<G: Ground>(site: &mut Site<G>, call: Call) -> Answer
     ensures answer { λ r. ⌜ replyOf r ≡ reply (sceneOf (G·Ground .meaning) (now (site .entry))) call ⌝ }
     ensures after { λ _. ⌜ sceneOf (G·Ground .meaning) (now (site .exit)) ≡ step (sceneOf (G·Ground .meaning) (now (site .entry))) call ⌝ }
 {
@@ -70,18 +72,27 @@ fn make_all<G: Ground>(site: &mut Site<G>, calls: Vec<Call>, answers: &mut Vec<A
     }
 }
 
+impl Stage {
+    // Room for some calls: for the columns of any ground, and for the answers.
+    pub fn new(heap: Global, calls: Vec<Call>) -> Result<Stage, AllocError>
+        ensures { λ r. ⌜ made r (λ stage. callsOf stage ≡ vec-items calls) ⌝ }
+    {
+        let plot = Plot::new(heap)?;
+        let answers = Vec::with_capacity(heap, calls.len())?;
+        Ok(Stage {
+            plot,
+            calls,
+            answers,
+        })
+    }
+}
+
 // Opens a site and makes every call, in order.
-pub fn perform<G: Ground + Drop>(
-    heap: Global,
-    ground: G,
-    settings: Settings,
-    calls: Vec<Call>,
-) -> Result<Performance<G>, AllocError>
-    ensures after { λ r. ⌜ made r (λ p. (sceneOf (G·Ground .meaning) (p .site) ≡ run (opened (G·Ground .meaning ground) (settingsOf settings)) (vec-items calls)) × (map replyOf (vec-items (p .answers)) ≡ replies (opened (G·Ground .meaning ground) (settingsOf settings)) (vec-items calls))) ⌝ }
-    ensures undertaking { λ _. ⌜ Undertaking (G·Ground .meaning ground) (settingsOf settings) (vec-items calls) (replies (opened (G·Ground .meaning ground) (settingsOf settings)) (vec-items calls)) (run (opened (G·Ground .meaning ground) (settingsOf settings)) (vec-items calls)) ⌝ }
+pub fn perform<G: Ground>(stage: Stage, ground: G, settings: Settings) -> Performance<G>
+    ensures { λ p. ⌜ Undertaking (G·Ground .meaning ground) (settingsOf settings) (callsOf stage) (map replyOf (vec-items (p .answers))) (sceneOf (G·Ground .meaning) (p .site)) ⌝ }
 {
-    let mut answers = Vec::with_capacity(heap, calls.len())?;
-    let mut site = Site::open(heap, ground, settings)?;
-    make_all(&mut site, calls, &mut answers);
-    Ok(Performance { site, answers })
+    let mut answers = stage.answers;
+    let mut site = Site::open(stage.plot, ground, settings);
+    make_all(&mut site, stage.calls, &mut answers);
+    Performance { site, answers }
 }

@@ -3,6 +3,7 @@ use crate::answer::Answer;
 use crate::performing::make;
 use gate::Call;
 use gate::Next;
+use gate::Plot;
 use gate::Site;
 use ground::Ground;
 use ground::Listed;
@@ -76,7 +77,7 @@ fn obey<G: Ground>(site: &mut Site<G>, actions: u32) -> Result<(), Fail> {
 // Each refusal of each call, a move over two heights, the hill from which a lift would strand a robot, and the way home.
 #[test]
 fn on_a_square(rt: LibcRuntime) -> Result<(), Fail> {
-    let mut site = Site::open(rt.alloc(), square(3, 5)?, settings(3, 3, 0)?)?;
+    let mut site = Site::open(Plot::new(rt.alloc())?, square(3, 5)?, settings(3, 3, 0)?);
     let rows = [
         Row(Call::Recall, 32, 0, 0),
         Row(
@@ -168,7 +169,8 @@ fn on_a_square(rt: LibcRuntime) -> Result<(), Fail> {
         Row(Call::Move { from: 0, to: 1 }, 0, 0, 1),
         Row(Call::Lift { from: 1, to: 6 }, 27, 0, 0),
         Row(Call::Move { from: 6, to: 7 }, 0, 0, 1),
-        Row(Call::Lay { from: 5, to: 6 }, 0, 0, 1),
+        Row(Call::Lay { from: 5, to: 6 }, 0, 0, 0),
+        Row(Call::Recall, 31, 0, 1),
         Row(Call::Leave { column: 5 }, 0, 0, 1),
         Row(
             Call::Enter {
@@ -180,7 +182,8 @@ fn on_a_square(rt: LibcRuntime) -> Result<(), Fail> {
             1,
         ),
         Row(Call::Lay { from: 5, to: 6 }, 28, 0, 0),
-        Row(Call::Lift { from: 1, to: 6 }, 0, 0, 1),
+        Row(Call::Lift { from: 1, to: 6 }, 0, 0, 0),
+        Row(Call::Recall, 31, 0, 1),
         Row(Call::Lay { from: 1, to: 6 }, 0, 0, 1),
         Row(Call::Move { from: 7, to: 2 }, 0, 0, 1),
         Row(Call::Leave { column: 2 }, 0, 0, 1),
@@ -258,7 +261,7 @@ fn on_a_row(rt: LibcRuntime) -> Result<(), Fail> {
     let Ok(row) = Listed::new(5, &[1, 0, 0, 0, 1], &[(0, 1), (1, 2), (2, 3), (3, 4)]) else {
         return Err(Fail::new("a row"));
     };
-    let mut site = Site::open(rt.alloc(), row, settings(2, 3, 1)?)?;
+    let mut site = Site::open(Plot::new(rt.alloc())?, row, settings(2, 3, 1)?);
     let rows = [
         Row(
             Call::Enter {
@@ -290,19 +293,23 @@ fn on_a_row(rt: LibcRuntime) -> Result<(), Fail> {
             2,
         ),
         Row(Call::Lay { from: 0, to: 1 }, 0, 0, 0),
+        Row(Call::Recall, 31, 0, 0),
         Row(Call::Lay { from: 4, to: 3 }, 30, 2, 2),
         Row(Call::Lay { from: 4, to: 3 }, 0, 0, 0),
         Row(Call::Lift { from: 0, to: 1 }, 30, 2, 2),
+        Row(Call::Lift { from: 0, to: 1 }, 0, 0, 1),
+        Row(Call::Recall, 31, 0, 1),
     ];
     follow(&mut site, &rows)?;
-    check_eq(site.blocks_standing(), 2)?;
+    check_eq(site.blocks_standing(), 1)?;
+    check_eq(site.blocks_carried(), 1)?;
     obey(&mut site, 5)
 }
 
 // A lay raises its column when it ends; a robot enters at the tick at which another has left.
 #[test]
 fn in_as_another_has_left(rt: LibcRuntime) -> Result<(), Fail> {
-    let mut site = Site::open(rt.alloc(), square(3, 3)?, settings(2, 1, 3)?)?;
+    let mut site = Site::open(Plot::new(rt.alloc())?, square(3, 3)?, settings(2, 1, 3)?);
     let rows = [
         Row(
             Call::Enter {
