@@ -1,5 +1,6 @@
 pub mod Unfolding
 pub mod Freshness
 pub mod Related
+pub mod Coming
 pub mod Standing
 pub mod Turning

@@ -40,5 +40,7 @@ pub record Whole (m : Meaning) (s : Site-settings) (deeds : List Deed) (answers 
   pub apart : (r q c : ℕ) → Holds (v .columns) r c → Holds (v .columns) q c → r ≡ q
   pub blocks : tally brought-by (opened m s) (calls-by-all (opened m s) deeds)
       ≡ tally out-by (opened m s) (calls-by-all (opened m s) deeds) + (blocks-standing m (v .columns) + blocks-carried m (v .columns))
-  -- on a fresh site, a plan that keeps the rules is stopped where it first strands a robot, and nowhere else
-  pub plays : Fresh v → (plan : List Action) (targets : ℕ → ℕ) → Rules m s plan targets → Comes m s plan targets (play-on plan v)
+  -- wherever among the deeds the site is fresh, a plan that keeps the rules is stopped, if it is played there, where it first strands
+  -- a robot, and nowhere else
+  pub plays : (before after : List Deed) → before ++ after ≡ deeds → Fresh (runs (opened m s) before)
+      → (plan : List Action) (targets : ℕ → ℕ) → Rules m s plan targets → Comes m s plan targets (play-on plan (runs (opened m s) before))
