@@ -1,13 +1,12 @@
 -- No rule of judging is broken exactly where the rules hold. Assumes nothing.
-use mathlib.Core.Path.{_≡_, refl, sym, ap, subst, _∙_}
-use mathlib.Core.Bool.{Bool, true, false, not}
-use mathlib.Core.List.{List, [], _∷_, _++_, map}
-use mathlib.Core.Logic.{_≢_, _⊎_, inl, inr}
-use Prim.Native.Nat.{ℕ, _+_, _≤_, _<_}
+use mathlib.Core.Path.{_≡_, sym, subst}
+use mathlib.Core.Bool.{not}
+use mathlib.Core.List.{List, [], _∷_, _++_}
+use mathlib.Core.Logic.{_≢_, inl, inr}
+use Prim.Native.Nat.{ℕ, _<_}
 use native.Mathlib.Omega.{arith}
-use lib.Dec.{eqb, ltb}
+use lib.Dec.{eqb}
 use lib.ListN.{length, take}
-use Rattle.std.specs.Orderings.{Decides}
 use Rattle.std.proofs.shelf.Lists.{getD-map, length-map}
 use Rattle.std.proofs.shelf.Tests.{cases-lt}
 use Rattle.std.proofs.shelf.Ways.{decides-eqb}
@@ -22,7 +21,7 @@ use Rattle.plan.specs.Judged.{Collide, Judged, Left-standing, Meets, Timed}
 use Rattle.plan.specs.Lines.{action-of}
 use Rattle.plan.specs.Plan.{Action, carried, end-column, height-at, line, makespan, no-action}
 use Rattle.plan.specs.Reasons.{line-reasons}
-use Rattle.plan.specs.Rules.{Carried, Loaded, Marks, One-column, Rules, Sheet-rules, no-act, plan-of, target-of, written}
+use Rattle.plan.specs.Rules.{Carried, Loaded, Marks, One-column, Sheet-rules, no-act, plan-of, target-of, written}
 use Rattle.plan.proofs.Formed.{formed}
 use Rattle.plan.proofs.Judged.{rules-as-judged}
 use Rattle.plan.proofs.Lined.{kept}

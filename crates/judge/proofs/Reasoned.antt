@@ -1,19 +1,19 @@
 -- Each test of judging decides its reason in words, so the first that holds settles a sheet. Assumes nothing.
 use mathlib.Core.Path.{_≡_, refl, sym, ap, subst, _∙_}
-use mathlib.Core.Bool.{Bool, true, false, not, _&&_, _||_}
-use mathlib.Core.List.{List, [], _∷_, _++_}
-use mathlib.Core.Logic.{_≢_, _⊎_, inl, inr, ⊎-elim}
+use mathlib.Core.Bool.{Bool, true, false, not}
+use mathlib.Core.List.{List, [], _∷_}
+use mathlib.Core.Logic.{_≢_, _⊎_, inl, inr}
 use Prim.Native.Nat.{ℕ, suc, _-_, _≤_, _<_}
 use native.Mathlib.Omega.{arith}
 use lib.Dec.{eqb, leb, ltb}
-use lib.ListN.{length, getD, take}
+use lib.ListN.{length, take}
 use Rattle.std.specs.Orderings.{Decides}
 use Rattle.std.proofs.shelf.Tests.{cases-bool, cases-lt, lt-ltb, ltb-true, or-cases, or-left, or-right, true≢false}
 use Rattle.std.proofs.shelf.Ways.{decides-and, decides-eqb, decides-like, decides-ltb, decides-not, decides-or}
 use Rattle.terms.specs.Durations.{Site-settings}
 use Rattle.std.specs.declared.option.Option.the-variants.{None}
 use Rattle.terms.specs.Refusals.{Settles, Silent, first-of, from-on, told}
-use Rattle.terms.specs.declared.refusal.Rule.the-variants.{LeftBehind, LeftStanding, SpansCollide, TargetMissed, WrongHeightsWritten}
+use Rattle.terms.specs.declared.refusal.Rule.the-variants.{LeftBehind, LeftStanding, SpansCollide, TargetMissed}
 use Rattle.terms.specs.declared.work.Work.{Work}
 use Rattle.terms.specs.declared.work.Work.the-variants.{Entry, Leave, Wait, Move, PickUp, Deliver}
 use Rattle.terms.proofs.First.{Decide, decide-append, decide-on, first-settles}
@@ -21,10 +21,10 @@ use Rattle.ground.specs.Meaning.{Meaning}
 use Rattle.sheet.specs.View.{Records}
 use Rattle.sheet.specs.declared.record.ActLine.{ActLine}
 use Rattle.plan.specs.Judged.{Collide, In-order, Left-standing}
-use Rattle.plan.specs.Lines.{action-of, alike, line-tests}
-use Rattle.plan.specs.Plan.{Action, Ends, Runs, Touches, carried, carry-after, end-column, ends, height-at, is-entry, is-leave, line, makespan, no-action, shares, some-of}
+use Rattle.plan.specs.Lines.{action-of, line-tests}
+use Rattle.plan.specs.Plan.{Action, Ends, Touches, carried, carry-after, end-column, ends, height-at, is-entry, is-leave, line, makespan, no-action, shares, some-of}
 use Rattle.plan.specs.Reasons.{line-reasons}
-use Rattle.plan.specs.Rules.{Carried, Follows, Heights, Written, plan-of, target-of, written}
+use Rattle.plan.specs.Rules.{Follows, Heights, Written, plan-of, target-of, written}
 use Rattle.plan.proofs.Lined.{decides-alike, line-decides}
 use Rattle.plan.proofs.Searches.{decides-carried, decides-ends, decides-leb, decides-no-entry, decides-no-leave, decides-some-of}
 use Rattle.judge.specs.Judging.{collide, crowd, end-tests, falls, fits, from-somewhere, goes-on-from, heights-fit, judge-tests, latest-start, left-behind, left-standing, missed, overlap, sheet-tests, tests-at}

@@ -1,5 +1,5 @@
 -- By settings every work takes some time. Assumes nothing.
-use mathlib.Core.Bool.{Bool, true, false}
+use mathlib.Core.Bool.{true, false}
 use native.Mathlib.Omega.{arith}
 use Rattle.terms.specs.View.{settingsOf}
 use Rattle.terms.specs.declared.settings.Settings.{Settings}

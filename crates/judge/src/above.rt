@@ -1,11 +1,8 @@
 // What the actions above a line come to.
 ghost use mathlib.Core.Path.{_≡_};
 ghost use Rattle.std.specs.shelf.Lists.{countBy};
-ghost use Prim.Native.Nat.{_≤_};
-ghost use lib.ListN.{length};
-ghost use Rattle.plan.specs.Plan.{carried, height-at, runs, some-of};
-ghost use Rattle.plan.specs.View.{actionOf, planOf};
-ghost use Rattle.judge.specs.Judging.{goes-on-from, from-somewhere};
+ghost use Rattle.plan.specs.Plan.{carried, height-at, runs};
+ghost use Rattle.plan.specs.View.{planOf};
 use plan::Action;
 
 // Whether an action starts at a time from a column.
@@ -26,7 +23,7 @@ pub(crate) fn running_at(actions: &[Action], time: u32) -> usize
 {
     let mut running = 0;
     for action in actions {
-        if action.runs(time) {
+        if action.span.holds(time) {
             running += 1;
         }
     }

@@ -1,9 +1,9 @@
 // What a plan comes to.
 ghost use mathlib.Core.Path.{_≡_};
-ghost use Prim.Native.Nat.{ℕ, _≤_, _<_};
+ghost use Prim.Native.Nat.{ℕ, _≤_};
 ghost use lib.ListN.{length};
 ghost use Rattle.std.specs.shelf.Lists.{countBy, sumBy};
-ghost use Rattle.plan.specs.Plan.{line, makespan, runs};
+ghost use Rattle.plan.specs.Plan.{makespan, runs};
 ghost use Rattle.plan.specs.View.{planOf};
 ghost use Rattle.judge.specs.Figures.{cost};
 use crate::above::running_at;

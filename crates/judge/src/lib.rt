@@ -7,6 +7,8 @@ mod figures;
 mod judging;
 mod room;
 mod rules;
+#[cfg(test)]
+mod tests;
 
 pub use accepted::Accepted;
 pub use judging::judge;

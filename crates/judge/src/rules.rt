@@ -1,8 +1,7 @@
 // The rules of an action against the actions above it.
 ghost use mathlib.Core.Path.{_≡_};
-ghost use mathlib.Core.Bool.{not};
 ghost use Prim.Native.Nat.{_<_};
-ghost use lib.Dec.{ltb};
+ghost use lib.Dec.{leb, ltb};
 ghost use Rattle.std.specs.Options.{mapped};
 ghost use Rattle.terms.specs.Refusals.{Answers, first-of, or-else, toldOf};
 ghost use Rattle.terms.specs.View.{settingsOf};
@@ -153,11 +152,18 @@ fn is_from_somewhere(above: &[Action], action: &Action) -> bool
     }
 }
 
+// Whether one span more is more than there may be robots.
+fn is_full(running: usize, robots: u8) -> bool
+    ensures { λ r. ⌜ r ≡ leb robots running ⌝ }
+{
+    running >= robots as usize
+}
+
 // Whether more spans than there may be robots hold the start of an action, its own among them.
 fn is_crowded(settings: &Settings, above: &[Action], action: &Action) -> bool
     ensures { λ r. ⌜ r ≡ ltb (settingsOf (now (settings .entry)) .robots) (crowd (planOf (now (above .entry))) (actionOf (now (action .entry)))) ⌝ }
 {
-    running_at(above, action.span.start()) >= settings.robots() as usize
+    is_full(running_at(above, action.span.start()), settings.robots())
 }
 
 // The first rule that an action breaks against those above it, if it breaks one.

@@ -1,16 +1,14 @@
 -- An action whose line is well marked has one column where it should, and the right load. Assumes nothing.
-use mathlib.Core.Path.{_≡_, refl, sym, ap, subst, _∙_}
+use mathlib.Core.Path.{_≡_, refl, sym}
 use mathlib.Core.Bool.{Bool, true, false, cond, _&&_}
-use mathlib.Core.Logic.{_⊎_, inl, inr}
 use Prim.Native.Nat.{ℕ}
 use lib.Dec.{eqb}
-use Rattle.std.proofs.shelf.Tests.{and-parts, cases-bool, eqb-true}
-use Rattle.terms.specs.declared.work.Work.{Work}
-use Rattle.terms.specs.declared.work.Work.the-variants.{Entry, Leave, Wait, Move, PickUp, Deliver}
+use Rattle.std.proofs.shelf.Tests.{and-parts, eqb-true}
+use Rattle.terms.specs.declared.work.Work.the-variants.{Wait, Move}
 use Rattle.sheet.specs.declared.record.ActLine.{ActLine}
 use Rattle.sheet.specs.declared.record.Letter.{Letter}
 use Rattle.sheet.specs.declared.record.Letter.the-variants.{M, P, D}
-use Rattle.plan.specs.Lines.{action-of, inside, marked, numbered, work-of}
+use Rattle.plan.specs.Lines.{action-of, marked, numbered, work-of}
 use Rattle.plan.specs.Rules.{Loaded, Marks, One-column, Suited}
 
 -- e, x: the sides are outside; f, o: what is written for them; h: the heights are the same

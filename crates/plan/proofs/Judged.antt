@@ -1,10 +1,10 @@
 -- The rules against the actions above are the rules over all: those below have not begun, or not ended, by then.
 -- Assumes nothing.
-use mathlib.Core.Path.{_≡_, refl, sym, ap, ap₂, subst, _∙_}
-use mathlib.Core.Bool.{Bool, true, false, cond, _&&_}
-use mathlib.Core.List.{List, [], _∷_, _++_}
+use mathlib.Core.Path.{_≡_, sym, ap, ap₂, subst, _∙_}
+use mathlib.Core.Bool.{Bool, false, cond, _&&_}
+use mathlib.Core.List.{List, [], _∷_}
 use mathlib.Core.Logic.{_≢_, _⊎_, inl, inr}
-use Prim.Native.Nat.{ℕ, zero, suc, _-_, _≤_, _<_, max}
+use Prim.Native.Nat.{ℕ, zero, suc, _-_, _≤_, _<_}
 use native.Mathlib.Omega.{arith}
 use native.Mathlib.Decide.{le-ind}
 use lib.Dec.{eqb, leb, ltb}
@@ -14,16 +14,14 @@ use Rattle.std.specs.shelf.Lists.{countBy}
 use Rattle.std.proofs.shelf.Lists.{getD-take, length-take-le}
 use Rattle.std.proofs.shelf.Sums.{sumBy-append, sumBy-take-le}
 use Rattle.std.proofs.shelf.Tests.{cases-lt, cases-order, le-leb, lt-leb, and-left, and-right}
-use Rattle.std.proofs.shelf.Ways.{tells}
 use Rattle.terms.specs.Durations.{Site-settings}
 use Rattle.terms.specs.declared.work.Work.the-variants.{Entry, Leave}
 use Rattle.ground.specs.Meaning.{Meaning}
-use Rattle.plan.specs.Judged.{Judged, Left-standing, Meets, Rules-as-judged, Timed}
-use Rattle.plan.specs.Plan.{Action, Ends, Runs, Starts, Touches, carried, carry-after, delivers, end-column, height-at, is-deliver, is-pick-up, line, makespan, no-action, picks, runs}
-use Rattle.plan.specs.Rules.{Carried, Follows, Heights, Rules, Written}
+use Rattle.plan.specs.Judged.{Judged, Left-standing, Rules-as-judged, Timed}
+use Rattle.plan.specs.Plan.{Action, Ends, Runs, Starts, Touches, carry-after, delivers, end-column, height-at, is-deliver, is-pick-up, line, makespan, no-action, picks, runs}
+use Rattle.plan.specs.Rules.{Follows, Heights, Rules, Written}
 use Rattle.plan.proofs.Busiest.{busiest}
 use Rattle.plan.proofs.Counts.{count-front, count-same, countBy-cons, unit}
-use Rattle.plan.proofs.Searches.{decides-carried, stable}
 
 -- an action that has not ended yet does not count
 pub not-yet : (x y : Bool) (e t : ℕ) → t < e → (x && (y && leb e t)) ≡ false

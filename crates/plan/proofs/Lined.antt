@@ -1,12 +1,10 @@
 -- Each rule of a line by itself decides its reason in words; and what the marks of a line say of its action. Assumes nothing.
-use mathlib.Core.Path.{_≡_, refl, sym, ap, subst, _∙_}
-use mathlib.Core.Bool.{Bool, true, false, cond, not, _&&_}
-use mathlib.Core.List.{List, [], _∷_}
-use Prim.Native.Nat.{ℕ, suc, _<_}
-use native.Mathlib.Omega.{arith}
+use mathlib.Core.Path.{_≡_, refl, sym}
+use mathlib.Core.Bool.{Bool, true, false, not, _&&_}
+use Prim.Native.Nat.{ℕ}
 use lib.Dec.{eqb, ltb}
 use Rattle.std.specs.Orderings.{Decides}
-use Rattle.std.proofs.shelf.Tests.{not-from-false, not-true, true≢false, false≢true}
+use Rattle.std.proofs.shelf.Tests.{not-from-false, not-true, true≢false}
 use Rattle.std.proofs.shelf.Ways.{decides-and, decides-eqb, decides-like, decides-ltb, decides-not}
 use Rattle.terms.specs.Durations.{Site-settings}
 use Rattle.terms.specs.Refusals.{Settles, first-of}
@@ -17,9 +15,7 @@ use Rattle.ground.specs.Meaning.{Meaning}
 use Rattle.sheet.specs.declared.record.ActLine.{ActLine}
 use Rattle.sheet.specs.declared.record.Letter.{Letter}
 use Rattle.sheet.specs.declared.record.Letter.the-variants.{M, P, D}
-use Rattle.sheet.specs.declared.record.Place.{Place}
-use Rattle.sheet.specs.declared.record.Place.the-variants.{Outside, At}
-use Rattle.plan.specs.Lines.{action-of, alike, due, inside, joins, line-tests, marked, marks-fit, numbered, on-scale, suits, top, work-of}
+use Rattle.plan.specs.Lines.{action-of, alike, due, joins, line-tests, marked, marks-fit, on-scale, suits, top}
 use Rattle.plan.specs.Plan.{Action}
 use Rattle.plan.specs.Reasons.{line-reasons}
 use Rattle.plan.specs.Rules.{Joined, Marks, On-scale, Suited}

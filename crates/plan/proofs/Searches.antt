@@ -1,18 +1,18 @@
 -- Each test of an action, and each search for one, decides what it is about. Assumes nothing.
-use mathlib.Core.Path.{_≡_, refl, sym, _∙_}
-use mathlib.Core.Bool.{Bool, true, false, not, _&&_, _||_}
+use mathlib.Core.Path.{_≡_, refl, sym}
+use mathlib.Core.Bool.{Bool, true, false, not, _||_}
 use mathlib.Core.List.{List, [], _∷_}
-use mathlib.Core.Logic.{_≢_, _⊎_, inl, inr, ⊎-elim}
+use mathlib.Core.Logic.{_≢_, ⊎-elim}
 use Prim.Native.Nat.{ℕ, zero, suc, _≤_, _<_}
 use native.Mathlib.Omega.{arith}
 use lib.Dec.{eqb, leb, ltb}
 use lib.ListN.{length, getD}
 use Rattle.std.specs.Orderings.{Decides}
-use Rattle.std.proofs.shelf.Tests.{cases-bool, or-left, or-right, or-cases, true≢false}
+use Rattle.std.proofs.shelf.Tests.{or-left, or-right, or-cases, true≢false}
 use Rattle.std.proofs.shelf.Ways.{decides-and, decides-eqb, decides-like, decides-ltb, tells}
 use Rattle.terms.specs.declared.work.Work.{Work}
 use Rattle.terms.specs.declared.work.Work.the-variants.{Entry, Leave, Wait, Move, PickUp, Deliver}
-use Rattle.plan.specs.Plan.{Action, Ends, Runs, Starts, carried, end-column, ends, is-entry, is-leave, line, no-action, runs, some-of, starts}
+use Rattle.plan.specs.Plan.{Action, Ends, Runs, Starts, carried, end-column, ends, is-entry, is-leave, no-action, runs, some-of, starts}
 use Rattle.plan.specs.Rules.{Carried}
 
 -- what does not fail holds, where it can be decided

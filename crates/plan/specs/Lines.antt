@@ -1,9 +1,7 @@
 -- What a written ACT line stands for, and what refuses it by itself. Assumes nothing.
-use mathlib.Core.Path.{_≡_}
 use mathlib.Core.Bool.{Bool, true, false, cond, not, _&&_}
 use mathlib.Core.List.{List, [], _∷_}
-use mathlib.Core.Logic.{_≢_}
-use Prim.Native.Nat.{ℕ, suc, _+_, _<_}
+use Prim.Native.Nat.{ℕ, suc, _+_}
 use lib.Dec.{eqb, ltb}
 use Rattle.terms.specs.Durations.{Site-settings, durationOf}
 use Rattle.terms.specs.Refusals.{Told, told}

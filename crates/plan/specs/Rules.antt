@@ -1,14 +1,13 @@
 -- The rules that a plan keeps, each in words of all its actions, and what marks and carry a line may have. Assumes nothing.
 use mathlib.Core.Path.{_≡_}
-use mathlib.Core.Bool.{Bool, true, false}
+use mathlib.Core.Bool.{Bool, true, false, cond}
 use mathlib.Core.List.{List, [], _∷_, map}
 use mathlib.Core.Logic.{_≢_}
 use Prim.Native.Nat.{ℕ, suc, _≤_, _<_}
 use lib.Dec.{eqb}
 use lib.ListN.{length, getD}
-use mathlib.Core.Bool.{cond}
 use Rattle.std.specs.shelf.Lists.{countBy}
-use Rattle.terms.specs.Durations.{Site-settings, durationOf}
+use Rattle.terms.specs.Durations.{Site-settings}
 use Rattle.terms.specs.declared.work.Work.{Work}
 use Rattle.terms.specs.declared.work.Work.the-variants.{Entry, Leave, Wait, Move, PickUp, Deliver}
 use Rattle.ground.specs.Meaning.{Meaning}

@@ -1,6 +1,6 @@
 // What an action says of columns and times.
 ghost use mathlib.Core.Path.{_≡_};
-ghost use Rattle.plan.specs.Plan.{carry-after, delivers, end-column, ends, picks, runs, shares, starts};
+ghost use Rattle.plan.specs.Plan.{carry-after, delivers, end-column, ends, picks, shares, starts};
 ghost use Rattle.plan.specs.View.{actionOf};
 use crate::Action;
 use terms::Work;
@@ -65,13 +65,6 @@ impl Action {
             Work::PickUp => self.to.column == column && self.span.end() <= time,
             _ => false,
         }
-    }
-
-    // Whether it runs at a time.
-    pub fn runs(&self, time: u32) -> bool
-        ensures { λ r. ⌜ r ≡ runs time (actionOf (now (self .entry))) ⌝ }
-    {
-        self.span.holds(time)
     }
 
     // Whether one of its columns is one of another's.

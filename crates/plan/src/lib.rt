@@ -5,6 +5,7 @@ mod asked;
 mod line;
 mod span;
 mod spans;
+mod times;
 
 pub use action::Action;
 pub use action::Spot;

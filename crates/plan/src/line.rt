@@ -1,13 +1,13 @@
 // The rules that a line has to keep by itself, and the action that it then stands for.
 ghost use mathlib.Core.Path.{_≡_};
 ghost use mathlib.Core.Bool.{true, false, _&&_};
-ghost use Prim.Native.Nat.{ℕ, _+_, _≤_, _<_};
+ghost use Prim.Native.Nat.{_+_, _<_};
 ghost use lib.Dec.{eqb, ltb};
 ghost use Rattle.std.specs.Options.{Cases as BySome};
 ghost use Rattle.terms.specs.Durations.{durationOf};
 ghost use Rattle.terms.specs.Refusals.{Answers, first-of};
 ghost use Rattle.terms.specs.View.{settingsOf};
-ghost use Rattle.plan.specs.Lines.{marked, numbered, marks-fit, action-of, on-scale, joins, top, due, line-tests};
+ghost use Rattle.plan.specs.Lines.{marked, numbered, marks-fit, action-of, joins, top, line-tests};
 ghost use Rattle.plan.specs.View.{actionOf, startOf, endOf};
 ghost use Rattle.plan.specs.Asking.{askedOf, asked-in};
 use crate::Action;

@@ -1,6 +1,5 @@
-// Making spans, and what they say.
+// Making spans, and which timesteps they hold.
 ghost use mathlib.Core.Path.{_≡_};
-ghost use mathlib.Core.Bool.{true};
 ghost use Prim.Native.Nat.{ℕ, _-_, _≤_};
 ghost use Rattle.std.specs.Options.{Cases as BySome};
 ghost use Rattle.std.specs.Orderings.{Decides};
@@ -18,18 +17,6 @@ impl Span {
         } else {
             None
         }
-    }
-
-    pub fn start(&self) -> u32
-        ensures { λ r. ⌜ r ≡ startOf (now (self .entry)) ⌝ }
-    {
-        self.start
-    }
-
-    pub fn end(&self) -> u32
-        ensures { λ r. ⌜ r ≡ endOf (now (self .entry)) ⌝ }
-    {
-        self.end
     }
 
     // How many timesteps it holds.

@@ -169,7 +169,8 @@ fn on_a_square(rt: LibcRuntime) -> Result<(), Fail> {
         Row(Call::Move { from: 0, to: 1 }, 0, 0, 1),
         Row(Call::Lift { from: 1, to: 6 }, 27, 0, 0),
         Row(Call::Move { from: 6, to: 7 }, 0, 0, 1),
-        Row(Call::Lay { from: 5, to: 6 }, 0, 0, 1),
+        Row(Call::Lay { from: 5, to: 6 }, 0, 0, 0),
+        Row(Call::Recall, 31, 0, 1),
         Row(Call::Leave { column: 5 }, 0, 0, 1),
         Row(
             Call::Enter {
@@ -181,7 +182,8 @@ fn on_a_square(rt: LibcRuntime) -> Result<(), Fail> {
             1,
         ),
         Row(Call::Lay { from: 5, to: 6 }, 28, 0, 0),
-        Row(Call::Lift { from: 1, to: 6 }, 0, 0, 1),
+        Row(Call::Lift { from: 1, to: 6 }, 0, 0, 0),
+        Row(Call::Recall, 31, 0, 1),
         Row(Call::Lay { from: 1, to: 6 }, 0, 0, 1),
         Row(Call::Move { from: 7, to: 2 }, 0, 0, 1),
         Row(Call::Leave { column: 2 }, 0, 0, 1),
@@ -291,12 +293,16 @@ fn on_a_row(rt: LibcRuntime) -> Result<(), Fail> {
             2,
         ),
         Row(Call::Lay { from: 0, to: 1 }, 0, 0, 0),
+        Row(Call::Recall, 31, 0, 0),
         Row(Call::Lay { from: 4, to: 3 }, 30, 2, 2),
         Row(Call::Lay { from: 4, to: 3 }, 0, 0, 0),
         Row(Call::Lift { from: 0, to: 1 }, 30, 2, 2),
+        Row(Call::Lift { from: 0, to: 1 }, 0, 0, 1),
+        Row(Call::Recall, 31, 0, 1),
     ];
     follow(&mut site, &rows)?;
-    check_eq(site.blocks_standing(), 2)?;
+    check_eq(site.blocks_standing(), 1)?;
+    check_eq(site.blocks_carried(), 1)?;
     obey(&mut site, 5)
 }
 

@@ -1,4 +1,4 @@
-use mathlib.Core.Path.{sym, _∙_}
+use mathlib.Core.Path.{sym}
 use Rattle.plan.specs.Plan.{starts}
 use Rattle.plan.specs.View.{actionOf}
 use Rattle.judge.proofs.Steps.{some-here, some-later, some-none}

@@ -1,4 +1,3 @@
-use mathlib.Core.Path.{_∙_}
 use native.Mathlib.Omega.{arith}
 use Rattle.plan.specs.Plan.{makespan}
 use Rattle.plan.specs.View.{actionOf}

@@ -16,8 +16,8 @@ loop-action-again c =
     most-more (planOf xs) i (c .loop-action .most) (c .running-at-running .result) (c .if-running-most .most) (c .start .result) (c .running-at-running .ensures)
     (c .start .ensures ∙ sym (ap (λ (a : Action). a .start) at))
     (elim (c .if-running-most .came) [
-      | then-running-most w ↦ inl (w .if-running-most .taken, w .most-is)
-      | else-running-most w ↦ inr (w .if-running-most .left, w .most-is)
+      | then-running-most w ↦ inl (omega (arith, w .if-running-most .taken), w .most-is)
+      | else-running-most w ↦ inr (omega (arith, w .if-running-most .left), w .most-is)
     ])
     (c .loop-action .inv)
 

@@ -13,7 +13,7 @@ returns c =
     record {
       plan = (refl, refl);
       figures =
-        figured (planOf (vec-items (c .args .actions))) (c .latest-end-makespan .result) (c .costs-costs .result) (c .most-at-once-most .result)
-        (ap planOf (c .as-slice .ensures .value)) (ap planOf (c .as-slice-2 .ensures .value)) (ap planOf (c .as-slice-3 .ensures .value))
-        (c .latest-end-makespan .ensures) (c .costs-costs .ensures .value) (c .most-at-once-most .ensures .reached) (c .most-at-once-most .ensures .never-more);
+          figured (planOf (vec-items (c .args .actions))) (c .latest-end-makespan .result) (c .costs-costs .result) (c .most-at-once-most .result)
+          (ap planOf (c .as-slice .ensures .value)) (ap planOf (c .as-slice-2 .ensures .value)) (ap planOf (c .as-slice-3 .ensures .value))
+          (c .latest-end-makespan .ensures) (c .costs-costs .ensures .value) (c .most-at-once-most .ensures .reached) (c .most-at-once-most .ensures .never-more);
     }

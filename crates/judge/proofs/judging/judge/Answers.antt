@@ -1,23 +1,21 @@
 -- Each way out is the refusal of its stage, those before it having passed.
-use mathlib.Core.Path.{_≡_, ap, sym, subst, _∙_}
+use mathlib.Core.Path.{_≡_, ap, sym, _∙_}
 use mathlib.Core.List.{List}
-use Prim.Native.Nat.{ℕ, _≤_}
+use Prim.Native.Nat.{ℕ}
 use native.Mathlib.Omega.{arith}
-use lib.ListN.{length}
 use Rattle.std.specs.Of.Vec.{vec-items}
-use Rattle.std.specs.declared.option.Option.the-variants.{Some, None}
 use Rattle.std.specs.declared.result.Result.the-variants.{Ok, Err}
 use Rattle.std.specs.Options.{mapped}
-use Rattle.terms.specs.Refusals.{Answers, first-of, toldOf}
+use Rattle.terms.specs.Refusals.{first-of, toldOf}
 use Rattle.terms.specs.View.{settingsOf}
 use Rattle.ground.specs.Meaning.{Meaning}
-use Rattle.sheet.specs.View.{Records, records-in, sheetOf}
+use Rattle.sheet.specs.View.{Records, records-in}
 use Rattle.sheet.specs.declared.record.ActLine.{ActLine}
 use Rattle.sheet.specs.declared.target.Target.{Target}
 use Rattle.plan.specs.Plan.{Action as Step}
 use Rattle.plan.specs.Rules.{plan-of, target-of}
 use Rattle.plan.specs.View.{planOf}
-use Rattle.judge.specs.Judging.{end-tests, judging-refusal}
+use Rattle.judge.specs.Judging.{end-tests}
 use Rattle.judge.specs.Verdict.{Accepts}
 use Rattle.judge.specs.View.{acceptanceOf}
 use Rattle.judge.specs.declared.accepted.Accepted.{Accepted}
@@ -68,9 +66,9 @@ returns-in-Some g c =
     let lines = c .in-Ok-judge-lines .ensures tt in
     let r : Records = record { targets = vec-items (c .in-Ok .read .targets); acts = c .as-slice .result .now; lines = c .in-Ok .read .lines } in
     let is : r ≡ records-in sheet =
-      ap (λ (xs : List ActLine). record { targets = vec-items (c .in-Ok .read .targets); acts = xs; lines = c .in-Ok .read .lines }) (c .as-slice .ensures .value) ∙ read .1 in
+    ap (λ (xs : List ActLine). record { targets = vec-items (c .in-Ok .read .targets); acts = xs; lines = c .in-Ok .read .lines }) (c .as-slice .ensures .value) ∙ read .1 in
     let end = at-end m s sheet r (read .0) is (lines .0)
-      ∙ sym (ended m (c .in-Ok .read .lines) (ap planOf (c .as-slice-2 .ensures .value) ∙ lines .1 .0) (c .as-slice-3 .ensures .value)) ∙ sym (c .judge-end .ensures) in
+    ∙ sym (ended m (c .in-Ok .read .lines) (ap planOf (c .as-slice-2 .ensures .value) ∙ lines .1 .0) (c .as-slice-3 .ensures .value)) ∙ sym (c .judge-end .ensures) in
     let e = end ∙ ap (mapped toldOf) (c .in-Some .is) in
     record {
       value = e;
@@ -91,15 +89,15 @@ returns-in-None g c =
     let lines = c .in-Ok-judge-lines .ensures tt in
     let r : Records = record { targets = vec-items (c .in-Ok .read .targets); acts = c .as-slice .result .now; lines = c .in-Ok .read .lines } in
     let is : r ≡ records-in sheet =
-      ap (λ (xs : List ActLine). record { targets = vec-items (c .in-Ok .read .targets); acts = xs; lines = c .in-Ok .read .lines }) (c .as-slice .ensures .value) ∙ read .1 in
+    ap (λ (xs : List ActLine). record { targets = vec-items (c .in-Ok .read .targets); acts = xs; lines = c .in-Ok .read .lines }) (c .as-slice .ensures .value) ∙ read .1 in
     let end = at-end m s sheet r (read .0) is (lines .0)
-      ∙ sym (ended m (c .in-Ok .read .lines) (ap planOf (c .as-slice-2 .ensures .value) ∙ lines .1 .0) (c .as-slice-3 .ensures .value)) ∙ sym (c .judge-end .ensures) in
+    ∙ sym (ended m (c .in-Ok .read .lines) (ap planOf (c .as-slice-2 .ensures .value) ∙ lines .1 .0) (c .as-slice-3 .ensures .value)) ∙ sym (c .judge-end .ensures) in
     let none = end ∙ ap (mapped toldOf) (c .in-None .is) in
     let accepts : Accepts (records-in sheet) (acceptanceOf (c .accept .result)) = record {
-        plan = c .accept .ensures .plan .0 ∙ lines .1 .0 ∙ ap (λ (x : Records). plan-of (x .acts)) is;
-        targets = c .accept .ensures .plan .1 ∙ ap (λ (x : Records). x .targets) is;
-        figures = c .accept .ensures .figures;
-      } in
+      plan = c .accept .ensures .plan .0 ∙ lines .1 .0 ∙ ap (λ (x : Records). plan-of (x .acts)) is;
+      targets = c .accept .ensures .plan .1 ∙ ap (λ (x : Records). x .targets) is;
+      figures = c .accept .ensures .figures;
+    } in
     record {
       value = (none, accepts);
       words = in-words m s sheet P (Ok (c .accept .result)) (none, accepts);

@@ -1,9 +1,7 @@
 -- Each way out is the first test that holds, those before it having failed.
-use mathlib.Core.Path.{_≡_, ap, sym, _∙_}
-use Prim.Native.Nat.{ℕ}
+use mathlib.Core.Path.{ap, sym, _∙_}
 use Rattle.std.specs.Options.{mapped}
-use Rattle.std.specs.declared.option.Option.{Option}
-use Rattle.std.specs.declared.option.Option.the-variants.{Some, None}
+use Rattle.std.specs.declared.option.Option.the-variants.{Some}
 use Rattle.terms.specs.Refusals.{told}
 use Rattle.terms.specs.View.{settingsOf}
 use Rattle.terms.specs.declared.refusal.Rule.the-variants.{LeftStanding, SpansCollide}

@@ -1,5 +1,4 @@
 use mathlib.Core.Path.{ap, sym}
-use mathlib.Core.Bool.{Bool}
 use Rattle.plan.specs.Plan.{Action}
 use Rattle.plan.specs.View.{actionOf}
 use Rattle.judge.specs.Finding.{lineIn}

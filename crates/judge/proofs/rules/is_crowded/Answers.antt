@@ -1,4 +1,4 @@
-use mathlib.Core.Path.{_≡_, ap, ap₂, sym, _∙_}
+use mathlib.Core.Path.{ap, _∙_}
 use Prim.Native.Nat.{ℕ}
 use lib.Dec.{leb}
 use Rattle.std.specs.shelf.Lists.{countBy}
@@ -11,6 +11,6 @@ pub returns : need.returns
 returns c =
     let a = actionOf (c .args .action .now) in
     let above = planOf (c .args .above .now) in
-    ap (λ (k : ℕ). leb k (c .running-at .result)) (c .robots .ensures)
+    c .is-full .ensures ∙ ap (λ (k : ℕ). leb k (c .running-at .result)) (c .robots .ensures)
     ∙ crowded (c .args .settings .now .robots) (c .running-at .result) above a (c .args .action .now .span .ordered)
     (c .running-at .ensures ∙ ap (λ (t : ℕ). countBy (runs t) above) (c .start .ensures))

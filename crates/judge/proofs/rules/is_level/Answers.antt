@@ -1,4 +1,4 @@
-use mathlib.Core.Path.{_≡_, ap, ap₂, sym, _∙_}
+use mathlib.Core.Path.{ap, ap₂, _∙_}
 use Prim.Native.Nat.{ℕ}
 use Rattle.plan.specs.Plan.{height-at}
 use Rattle.plan.specs.View.{planOf}

@@ -1,6 +1,5 @@
-use mathlib.Core.Path.{_≡_, ap, sym, _∙_}
+use mathlib.Core.Path.{ap, sym, _∙_}
 use Rattle.std.specs.Options.{mapped}
-use Rattle.std.specs.declared.option.Option.{Option}
 use Rattle.terms.specs.Refusals.{first-of, toldOf}
 use Rattle.terms.specs.View.{settingsOf}
 use Rattle.plan.specs.Plan.{Action}

@@ -1,9 +1,9 @@
-use mathlib.Core.Path.{_≡_, ap, sym, subst, _∙_}
+use mathlib.Core.Path.{ap, sym, subst, _∙_}
 use mathlib.Core.List.{List}
 use Rattle.std.specs.declared.option.Option.the-variants.{Some}
 use Rattle.std.proofs.shelf.Lists.{take-all}
 use Rattle.plan.specs.Plan.{Action}
-use Rattle.plan.specs.View.{actionOf, planOf}
+use Rattle.plan.specs.View.{planOf}
 use Rattle.judge.specs.Finding.{Lowest, left-between, lower-of}
 use Rattle.judge.proofs.Lowest.{lower-more, lowest-same}
 use Rattle.judge.proofs.rules.left_standing.Needs as need
