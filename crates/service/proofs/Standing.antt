@@ -19,6 +19,7 @@ use Rattle.service.specs.Whole.{Whole}
 use Rattle.service.proofs.Unfolding.{runs-run}
 use Rattle.service.proofs.Related.{all-relate}
 use Rattle.service.proofs.Coming.{plays-after}
+use Rattle.service.proofs.Lasting.{lasts-through}
 
 module _ (m : Meaning) (s : Site-settings) (law : Lawful m) (ok : Proper s) (ds : List Deed) where
   is : runs (opened m s) ds ≡ run (opened m s) (calls-by-all (opened m s) ds)
@@ -61,6 +62,7 @@ module _ (m : Meaning) (s : Site-settings) (law : Lawful m) (ok : Proper s) (ds 
         comes-to = λ w more. runs-run more w;
         amid = λ before after e. undertaken m s law ok before;
         lasts = of-calls Lasts (under .lasts);
+        lasts-through = lasts-through (runs (opened m s) ds) (of-calls Lasts (under .lasts));
         reads = of-calls Reads (under .reads);
         bounds = of-calls Bounds (under .bounds);
         ends = of-calls (λ v. (n : ℕ) × Quiet (after-ticks n v .columns)) (under .ends);

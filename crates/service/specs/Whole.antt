@@ -14,7 +14,8 @@ use Rattle.plan.specs.Plan.{Action}
 use Rattle.plan.specs.Rules.{Rules}
 use Rattle.play.specs.Play.{Fresh, play-on}
 use Rattle.play.specs.Stands.{Comes}
-use Rattle.service.specs.Deeds.{All-relate, Deed, replies-to, runs, calls-by-all}
+use Rattle.service.specs.Deeds.{All-relate, Deed, calls-by-all, replies-to, runs}
+use Rattle.service.specs.Lasting.{Lasts-through}
 
 -- of the deeds from the opening, their answers, and the site v after them
 pub record Whole (m : Meaning) (s : Site-settings) (deeds : List Deed) (answers : List Reply) (v : Scene) : Type 0 where
@@ -27,6 +28,7 @@ pub record Whole (m : Meaning) (s : Site-settings) (deeds : List Deed) (answers 
   pub amid : (before after : List Call) → before ++ after ≡ calls-by-all (opened m s) deeds
       → Undertaking m s before (replies (opened m s) before) (run (opened m s) before)
   pub lasts : Lasts v
+  pub lasts-through : Lasts-through v
   pub reads : Reads v
   pub bounds : Bounds v
   pub ends : (n : ℕ) × Quiet (after-ticks n v .columns)
