@@ -1,3 +1,4 @@
 pub mod Deeds
 pub mod View
+pub mod Lasting
 pub mod Whole

@@ -14,7 +14,8 @@ use Rattle.plan.specs.Plan.{Action}
 use Rattle.plan.specs.Rules.{Rules}
 use Rattle.play.specs.Play.{Fresh, play-on}
 use Rattle.play.specs.Stands.{Comes}
-use Rattle.service.specs.Deeds.{All-relate, Deed, replies-to, runs, calls-by-all}
+use Rattle.service.specs.Deeds.{All-relate, Deed, calls-by-all, replies-to, runs}
+use Rattle.service.specs.Lasting.{Lasts-through}
 
 -- of the deeds from the opening, their answers, and the site v after them
 pub record Whole (m : Meaning) (s : Site-settings) (deeds : List Deed) (answers : List Reply) (v : Scene) : Type 0 where
@@ -27,6 +28,7 @@ pub record Whole (m : Meaning) (s : Site-settings) (deeds : List Deed) (answers 
   pub amid : (before after : List Call) → before ++ after ≡ calls-by-all (opened m s) deeds
       → Undertaking m s before (replies (opened m s) before) (run (opened m s) before)
   pub lasts : Lasts v
+  pub lasts-through : Lasts-through v
   pub reads : Reads v
   pub bounds : Bounds v
   pub ends : (n : ℕ) × Quiet (after-ticks n v .columns)
@@ -40,5 +42,7 @@ pub record Whole (m : Meaning) (s : Site-settings) (deeds : List Deed) (answers 
   pub apart : (r q c : ℕ) → Holds (v .columns) r c → Holds (v .columns) q c → r ≡ q
   pub blocks : tally brought-by (opened m s) (calls-by-all (opened m s) deeds)
       ≡ tally out-by (opened m s) (calls-by-all (opened m s) deeds) + (blocks-standing m (v .columns) + blocks-carried m (v .columns))
-  -- on a fresh site, a plan that keeps the rules is stopped where it first strands a robot, and nowhere else
-  pub plays : Fresh v → (plan : List Action) (targets : ℕ → ℕ) → Rules m s plan targets → Comes m s plan targets (play-on plan v)
+  -- wherever among the deeds the site is fresh, a plan that keeps the rules is stopped, if it is played there, where it first strands
+  -- a robot, and nowhere else
+  pub plays : (before after : List Deed) → before ++ after ≡ deeds → Fresh (runs (opened m s) before)
+      → (plan : List Action) (targets : ℕ → ℕ) → Rules m s plan targets → Comes m s plan targets (play-on plan (runs (opened m s) before))

@@ -2,6 +2,8 @@
 mod deed;
 mod performing;
 mod stage;
+#[cfg(test)]
+mod tests;
 
 pub use deed::Deed;
 pub use performing::perform;

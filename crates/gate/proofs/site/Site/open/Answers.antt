@@ -4,7 +4,7 @@ use native.Mathlib.Omega.{arith}
 use lib.ListN.{replicate}
 use Rattle.terms.specs.View.{settingsOf}
 use Rattle.gate.specs.Column.{fresh}
-use Rattle.gate.specs.Scene.{Columns, Scene, opened, with-columns}
+use Rattle.gate.specs.Scene.{Columns, opened, with-columns}
 use Rattle.gate.proofs.site.Site.open.Needs as need
 
 pub lay-out-columns-requires : need.lay-out-columns-requires
