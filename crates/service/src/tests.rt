@@ -12,7 +12,8 @@ use undertaking::Answer;
 use undertaking::Performance;
 
 // A robot enters with a block, lays it on the column in the middle, and leaves.
-const SHEET: &[u8] = b"GOAL     4     1                  \nACT      0     1   S  S 1 M   1  0\nACT      1     2   1  0 1 D   4  0\nACT      2     3   1  0 0 M   E  E\nEND      3                        \n";
+const SHEET: &[u8] =
+    b"GOAL     4     1                  \nACT      0     1   S  S 1 M   1  0\nACT      1     2   1  0 1 D   4  0\nACT      2     3   1  0 0 M   E  E\nEND      3                        \n";
 
 fn square() -> Result<Square, Fail> {
     match Square::new(3, 3) {
