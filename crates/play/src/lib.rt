@@ -4,4 +4,3 @@ mod spent;
 mod stands;
 
 pub use spent::play;
-pub use stands::plays_stand;

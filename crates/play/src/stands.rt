@@ -1,7 +1,7 @@
 // What comes of playing a plan that keeps the rules.
 ghost use Rattle.play.specs.Stands.{Plays-stand};
 
-pub fn plays_stand() -> u8
+pub(crate) fn plays_stand() -> u8
     ensures { λ _. ⌜ Plays-stand ⌝ }
 {
     0
