@@ -8,15 +8,12 @@ use Rattle.std.specs.declared.result.Result.{Result}
 use Rattle.std.specs.declared.result.Result.the-variants.{Ok, Err}
 use Rattle.terms.specs.Durations.{Site-settings}
 use Rattle.terms.specs.Ranges.{settings-from}
-use Rattle.terms.specs.Refusals.{Answers, Told, first-of, or-else}
-use Rattle.terms.specs.declared.refusal.Refusal.{Refusal}
+use Rattle.terms.specs.Refusals.{Told, first-of, or-else}
 use Rattle.ground.specs.Meaning.{Meaning}
 use Rattle.ground.specs.Squared.{squared}
-use Rattle.sheet.specs.View.{Records, records-in}
+use Rattle.gate.specs.Scene.{opened}
 use Rattle.judge.specs.Judging.{judging-refusal}
-use Rattle.judge.specs.Verdict.{Accepts}
-use Rattle.judge.specs.View.{acceptanceOf}
-use Rattle.judge.specs.declared.accepted.Accepted.{Accepted}
+use Rattle.job.specs.Replies.{site-of}
 use Rattle.job.specs.Jobs.{job-refusal, making-refusal, order, order-tests, sheet-in, sheet-refusal}
 use Rattle.job.specs.declared.order.Order.{Order}
 
@@ -34,18 +31,16 @@ module _ (input : List ℕ) where
   pub making-refuses : (o : Order) (t : Told) → first-of (order-tests input) ≡ None → order input ≡ Ok o → making-refusal (Ok o) ≡ Some t → job-refusal input ≡ Some t
   making-refuses o t none e made = past-line o none e ∙ ap (λ (x : Option Told). or-else x (sheet-refusal (Ok o) (sheet-in input))) made
 
-  pub sheet-decides : (o : Order) (m : Meaning) (s : Site-settings) (sheet : List ℕ) (r : Result Accepted Refusal) → first-of (order-tests input) ≡ None → order input ≡ Ok o → making-refusal (Ok o) ≡ None
-      → m ≡ squared (o .x) (o .y) → s ≡ settings-from (o .levels) (o .robots) (o .set) → sheet ≡ sheet-in input
-      → Answers (judging-refusal m s sheet) (λ x. Accepts (records-in sheet) (acceptanceOf x)) r → Answers (job-refusal input) (λ x. Accepts (records-in (sheet-in input)) (acceptanceOf x)) r
-  sheet-decides o m s sheet r none e made em es el a = answer r a
-    where
-      same : job-refusal input ≡ judging-refusal m s sheet
-      same =
-          past-line o none e ∙ ap (λ (x : Option Told). or-else x (sheet-refusal (Ok o) (sheet-in input))) made
-          ∙ ap (λ (l : List ℕ). judging-refusal (squared (o .x) (o .y)) (settings-from (o .levels) (o .robots) (o .set)) l) (sym el)
-          ∙ ap (λ (x : Site-settings). judging-refusal (squared (o .x) (o .y)) x sheet) (sym es)
-          ∙ ap (λ (x : Meaning). judging-refusal x s sheet) (sym em)
+  -- the sheet's own refusal decides then
+  pub sheet-decides : (o : Order) (m : Meaning) (s : Site-settings) (sheet : List ℕ) → first-of (order-tests input) ≡ None → order input ≡ Ok o → making-refusal (Ok o) ≡ None
+      → m ≡ squared (o .x) (o .y) → s ≡ settings-from (o .levels) (o .robots) (o .set) → sheet ≡ sheet-in input → job-refusal input ≡ judging-refusal m s sheet
+  sheet-decides o m s sheet none e made em es el =
+      past-line o none e ∙ ap (λ (x : Option Told). or-else x (sheet-refusal (Ok o) (sheet-in input))) made
+      ∙ ap (λ (l : List ℕ). judging-refusal (squared (o .x) (o .y)) (settings-from (o .levels) (o .robots) (o .set)) l) (sym el)
+      ∙ ap (λ (x : Site-settings). judging-refusal (squared (o .x) (o .y)) x sheet) (sym es)
+      ∙ ap (λ (x : Meaning). judging-refusal x s sheet) (sym em)
 
-      answer : (r : Result Accepted Refusal) → Answers (judging-refusal m s sheet) (λ x. Accepts (records-in sheet) (acceptanceOf x)) r → Answers (job-refusal input) (λ x. Accepts (records-in (sheet-in input)) (acceptanceOf x)) r
-      answer (Ok v) b = (same ∙ b .0, subst (λ (l : List ℕ). Accepts (records-in l) (acceptanceOf v)) el (b .1))
-      answer (Err f) b = same ∙ b
+  -- and the site is the job's
+  pub site-same : (o : Order) (m : Meaning) (s : Site-settings) → order input ≡ Ok o → m ≡ squared (o .x) (o .y) → s ≡ settings-from (o .levels) (o .robots) (o .set)
+      → opened m s ≡ site-of (order input)
+  site-same o m s e em es = ap (λ (x : Meaning). opened x s) em ∙ ap (opened (squared (o .x) (o .y))) es ∙ ap site-of (sym e)

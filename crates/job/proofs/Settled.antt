@@ -49,14 +49,15 @@ spelt-decides [] = (λ e. let p = four 0 0 0 0 .0 e in absurd (omega arith), λ 
 spelt-decides (a ∷ []) = (λ e. let p = four a 0 0 0 .0 e .1 in absurd (omega arith), λ e. let z : _≡_ {A = ℕ} 0 1 = cc in absurd (omega arith))
 spelt-decides (a ∷ b ∷ []) = (λ e. let p = four a b 0 0 .0 e .1 .1 in absurd (omega arith), λ e. let z : _≡_ {A = ℕ} 0 1 = cc in absurd (omega arith))
 spelt-decides (a ∷ b ∷ c ∷ []) = (λ e. let p = four a b c 0 .0 e .1 .1 .1 in absurd (omega arith), λ e. let z : _≡_ {A = ℕ} 0 1 = cc in absurd (omega arith))
-spelt-decides (a ∷ b ∷ c ∷ d ∷ l) =
-    (λ e.
-    let p = four a b c d .0 e in
-    let pa = p .0 in let pb = p .1 .0 in let pc = p .1 .1 .0 in let pd = p .1 .1 .1 in
-    cc,
-    λ e.
-    let pa : a ≡ 74 = cc in let pb : b ≡ 79 = cc in let pc : c ≡ 66 = cc in let pd : d ≡ 32 = cc in
-    four a b c d .1 (pa, (pb, (pc, pd))))
+spelt-decides (a ∷ b ∷ c ∷ d ∷ l) = (
+  λ e.
+      let p = four a b c d .0 e in
+      let pa = p .0 in let pb = p .1 .0 in let pc = p .1 .1 .0 in let pd = p .1 .1 .1 in
+      cc,
+  λ e.
+      let pa : a ≡ 74 = cc in let pb : b ≡ 79 = cc in let pc : c ≡ 66 = cc in let pd : d ≡ 32 = cc in
+      four a b c d .1 (pa, (pb, (pc, pd))),
+)
 
 job-decides : (l : List ℕ) → Decides (is-job l) (Job-line l)
 job-decides l =
@@ -73,20 +74,25 @@ field-tells (Err k) = refl
 
 order-settles : (input : List ℕ)
     → Settles
-      (record { holds = length input < 35; tells = told SheetShape 0 0 }
-      ∷ record { holds = Job-line (first-line input) → ⊥; tells = told LineShape 0 0 }
-      ∷ record { holds = (k : ℕ) × (order input ≡ Err k); tells = told FieldUnreadable 0 (unread-field (order input)) }
-      ∷ [])
-      (first-of (order-tests input))
+    (record { holds = length input < 35; tells = told SheetShape 0 0 }
+    ∷ record { holds = Job-line (first-line input) → ⊥; tells = told LineShape 0 0 }
+    ∷ record { holds = (k : ℕ) × (order input ≡ Err k); tells = told FieldUnreadable 0 (unread-field (order input)) }
+    ∷ [])
+    (first-of (order-tests input))
 order-settles input =
     first-settles (order-tests input)
     (record { holds = length input < 35; tells = told SheetShape 0 0 }
     ∷ record { holds = Job-line (first-line input) → ⊥; tells = told LineShape 0 0 }
     ∷ record { holds = (k : ℕ) × (order input ≡ Err k); tells = told FieldUnreadable 0 (unread-field (order input)) }
-    ∷ [])
-    (decides-ltb (length input) 35, refl,
-    (decides-not (is-job (first-line input)) (job-decides (first-line input)), refl,
-    (field-decides (order input), field-tells (order input), tt)))
+    ∷ []) (
+      decides-ltb (length input) 35,
+      refl,
+      (
+        decides-not (is-job (first-line input)) (job-decides (first-line input)),
+        refl,
+        (field-decides (order input), field-tells (order input), tt),
+      ),
+    )
 
 decides-leb : (a b : ℕ) → Decides (leb a b) (a ≤ b)
 decides-leb a b = grind (arith, tells)
@@ -96,19 +102,25 @@ within-decides low high n = decides-and (leb low n) (leb n high) (decides-leb lo
 
 size-settles : (x y : ℕ) → Settles (square-reasons x y) (square-refusal x y)
 size-settles x y =
-    first-settles ((not ((leb 1 x && leb x 16) && (leb 1 y && leb y 16)), told SquareSize 0 0) ∷ []) (square-reasons x y)
-    (decides-not (within 1 16 x && within 1 16 y)
-    (decides-like (within 1 16 x && within 1 16 y) (λ p. record { x-low = p .0 .0; x-high = p .0 .1; y-low = p .1 .0; y-high = p .1 .1 }) (λ s. ((s .x-low, s .x-high), (s .y-low, s .y-high)))
-    (decides-and (within 1 16 x) (within 1 16 y) (within-decides 1 16 x) (within-decides 1 16 y))), refl, tt)
+    first-settles ((not ((leb 1 x && leb x 16) && (leb 1 y && leb y 16)), told SquareSize 0 0) ∷ []) (square-reasons x y) (
+      decides-not (within 1 16 x && within 1 16 y)
+          (decides-like (within 1 16 x && within 1 16 y) (λ p. record { x-low = p .0 .0; x-high = p .0 .1; y-low = p .1 .0; y-high = p .1 .1 }) (λ s. ((s .x-low, s .x-high), (s .y-low, s .y-high)))
+          (decides-and (within 1 16 x) (within 1 16 y) (within-decides 1 16 x) (within-decides 1 16 y))),
+      refl,
+      tt,
+    )
 
 range-settles : (levels robots set : ℕ) → Settles (settings-reasons levels robots set) (settings-refusal levels robots set)
 range-settles levels robots set =
-    first-settles ((not (within 1 16 levels && (within 1 64 robots && leb set 3)), told SettingsRange 0 0) ∷ []) (settings-reasons levels robots set)
-    (decides-not (within 1 16 levels && (within 1 64 robots && leb set 3))
-    (decides-like (within 1 16 levels && (within 1 64 robots && leb set 3))
-    (λ p. record { levels-low = p .0 .0; levels-high = p .0 .1; robots-low = p .1 .0 .0; robots-high = p .1 .0 .1; set-high = p .1 .1 })
-    (λ s. ((s .levels-low, s .levels-high), ((s .robots-low, s .robots-high), s .set-high)))
-    (decides-and (within 1 16 levels) _ (within-decides 1 16 levels) (decides-and (within 1 64 robots) (leb set 3) (within-decides 1 64 robots) (decides-leb set 3)))), refl, tt)
+    first-settles ((not (within 1 16 levels && (within 1 64 robots && leb set 3)), told SettingsRange 0 0) ∷ []) (settings-reasons levels robots set) (
+      decides-not (within 1 16 levels && (within 1 64 robots && leb set 3))
+          (decides-like (within 1 16 levels && (within 1 64 robots && leb set 3))
+          (λ p. record { levels-low = p .0 .0; levels-high = p .0 .1; robots-low = p .1 .0 .0; robots-high = p .1 .0 .1; set-high = p .1 .1 })
+          (λ s. ((s .levels-low, s .levels-high), ((s .robots-low, s .robots-high), s .set-high)))
+          (decides-and (within 1 16 levels) _ (within-decides 1 16 levels) (decides-and (within 1 64 robots) (leb set 3) (within-decides 1 64 robots) (decides-leb set 3)))),
+      refl,
+      tt,
+    )
 
 -- what is made of the line's numbers, and the sheet
 after-settles : (r : Result Order ℕ) (sheet : List ℕ) → Settles (after-line r sheet) (or-else (making-refusal r) (sheet-refusal r sheet))
@@ -118,8 +130,8 @@ after-settles (Ok o) sheet =
     let m = squared (o .x) (o .y) in
     let s = settings-from (o .levels) (o .robots) (o .set) in
     let judged : Settles (judging-reasons m s sheet) (judging-refusal m s sheet) =
-      settles-both (reading-reasons m s sheet) (sheet-reasons m s (records-in sheet)) (reading-refusal m s sheet) (first-of (sheet-tests m s (records-in sheet)))
-      (reading-settles m s sheet) (sheet-settles m s (records-in sheet)) in
+    settles-both (reading-reasons m s sheet) (sheet-reasons m s (records-in sheet)) (reading-refusal m s sheet) (first-of (sheet-tests m s (records-in sheet)))
+    (reading-settles m s sheet) (sheet-settles m s (records-in sheet)) in
     let ranges = settings-reasons (o .levels) (o .robots) (o .set) in
     let range = settings-refusal (o .levels) (o .robots) (o .set) in
     rw or-else-assoc

@@ -2,3 +2,4 @@ pub mod Text
 pub mod Jobs
 pub mod Replies
 pub mod Words
+pub mod View

@@ -3,6 +3,7 @@ mod desk;
 mod line;
 mod opened;
 mod order;
+mod playing;
 mod reply;
 mod text;
 

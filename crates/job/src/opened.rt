@@ -6,10 +6,8 @@ ghost use Rattle.terms.specs.Refusals.{Answers};
 ghost use Rattle.terms.specs.View.{settingsOf};
 ghost use Rattle.ground.specs.Squared.{squared};
 ghost use Rattle.ground.specs.View.{squareOf};
-ghost use Rattle.sheet.specs.View.{records-in};
-ghost use Rattle.judge.specs.Verdict.{Accepts};
-ghost use Rattle.judge.specs.View.{acceptanceOf};
-ghost use Rattle.job.specs.Jobs.{job-refusal, making-refusal, sheet-in};
+ghost use Rattle.job.specs.Jobs.{job-refusal, making-refusal};
+ghost use Rattle.job.specs.View.{Judges};
 use crate::line::read_order;
 use crate::order::Order;
 use ground::Square;
@@ -24,6 +22,13 @@ use terms::Settings;
 pub(crate) struct Job {
     pub(crate) ground: Square,
     pub(crate) settings: Settings,
+}
+
+// A job whose plan was accepted.
+#[derive(Drop)]
+pub(crate) struct Judged {
+    pub(crate) job: Job,
+    pub(crate) plan: Accepted,
 }
 
 // The ground and the settings of a job's numbers.
@@ -41,8 +46,8 @@ fn open_job(order: Order) -> Result<Job, Refusal>
 }
 
 // Judges a job: its line, and the sheet behind it.
-pub(crate) fn judge_job(input: &[u8], room: Room) -> Result<Accepted, Refusal>
-    ensures { λ r. ⌜ Answers (job-refusal (now (input .entry))) (λ a. Accepts (records-in (sheet-in (now (input .entry)))) (acceptanceOf a)) r ⌝ }
+pub(crate) fn judge_job(input: &[u8], room: Room) -> Result<Judged, Refusal>
+    ensures { λ r. ⌜ Answers (job-refusal (now (input .entry))) (Judges (now (input .entry))) r ⌝ }
 {
     let order = match read_order(input) {
         Ok(order) => order,
@@ -52,5 +57,8 @@ pub(crate) fn judge_job(input: &[u8], room: Room) -> Result<Accepted, Refusal>
         Ok(job) => job,
         Err(refusal) => return Err(refusal),
     };
-    judge(&job.ground, &job.settings, &input[35..], room)
+    match judge(&job.ground, &job.settings, &input[35..], room) {
+        Ok(plan) => Ok(Judged { job, plan }),
+        Err(refusal) => Err(refusal),
+    }
 }

@@ -24,7 +24,8 @@ use Rattle.gate.specs.Gate.{refusal}
 use Rattle.gate.specs.Recall.{recall}
 use Rattle.gate.specs.Scene.{Scene}
 use Rattle.undertaking.specs.Runs.{run}
-use Rattle.job.specs.Replies.{answered}
+use Rattle.job.specs.Jobs.{job-refusal}
+use Rattle.job.specs.Replies.{ok-row, plan-in, reply}
 
 -- what is given, and what is expected, both as numbers
 pub record Example : Type 0 where
@@ -93,6 +94,10 @@ job-line = line (codes "JOB      3     3     2     1     0")
 abbrev pub job-line-set-1 : List ℕ
 job-line-set-1 = line (codes "JOB      3     3     2     1     1")
 
+-- what is printed of a job before its plan is played: the figures, or the first fault
+abbrev pub judged : List ℕ → List ℕ
+judged input = reply (job-refusal input) (ok-row (plan-in input))
+
 -- 3 by 5 columns: column 6 at height 1, 7 at 2, empty robots standing at 5 and 7
 abbrev pub hill : Scene
 hill =
@@ -109,11 +114,11 @@ after calls = run hill calls
 
 abbrev pub examples : List Example
 examples =
-    record { given = answered (job-line ++ one-block); expected = line (codes "OK       3     3     1") }
-    ∷ record { given = answered (job-line ++ nothing); expected = line (codes "OK       0     0     0") }
-    ∷ record { given = answered (job-line ++ no-leave); expected = line (codes "BAD     21     3     0") }
-    ∷ record { given = answered (job-line ++ delayed); expected = line (codes "BAD     16     3     1") }
-    ∷ record { given = answered (job-line-set-1 ++ one-block); expected = line (codes "BAD     14     2     0") }
+    record { given = judged (job-line ++ one-block); expected = line (codes "OK       3     3     1") }
+    ∷ record { given = judged (job-line ++ nothing); expected = line (codes "OK       0     0     0") }
+    ∷ record { given = judged (job-line ++ no-leave); expected = line (codes "BAD     21     3     0") }
+    ∷ record { given = judged (job-line ++ delayed); expected = line (codes "BAD     16     3     1") }
+    ∷ record { given = judged (job-line-set-1 ++ one-block); expected = line (codes "BAD     14     2     0") }
     ∷ record { given = numbers (square-refusal 16 1); expected = [] }
     ∷ record { given = numbers (square-refusal 17 1); expected = 1 ∷ 0 ∷ 0 ∷ [] }
     ∷ record { given = numbers (refusal hill (Lift 5 6)); expected = 30 ∷ 0 ∷ 7 ∷ [] }

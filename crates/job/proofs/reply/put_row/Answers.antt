@@ -1,6 +1,8 @@
 use mathlib.Core.Path.{_≡_, ap, sym, _∙_}
 use mathlib.Core.List.{List, [], _∷_, _++_}
 use Prim.Native.Nat.{ℕ}
+use native.Mathlib.Omega.{arith}
+use lib.ListN.{length}
 use Rattle.std.specs.Of.Vec.{vec-items}
 use Rattle.std.proofs.shelf.Lists.{append-assoc}
 use Rattle.job.specs.Text.{cells}
@@ -19,7 +21,11 @@ parts t t1 t2 t3 t4 t5 w x y z a b c e1 e2 e3 e4 e5 ea eb ec =
 
 pub returns : need.returns
 returns c =
-    parts (vec-items (c .args .text .now)) (vec-items (c .put .last .text)) (vec-items (c .put-2 .last .text)) (vec-items (c .put-3 .last .text)) (vec-items (c .put-4 .last .text)) (vec-items (c .put-5 .last .text))
-    (c .args .word .now) (c .six .result) (c .six-2 .result) (c .six-3 .result) (c .args .a) (c .args .b) (c .args .c)
-    (c .put .ensures .items) (c .put-2 .ensures .items) (c .put-3 .ensures .items) (c .put-4 .ensures .items) (c .put-5 .ensures .items)
-    (c .six .ensures .value) (c .six-2 .ensures .value) (c .six-3 .ensures .value)
+    record {
+      room = (omega arith, omega (arith, ap length (c .six .ensures .value), ap length (c .six-2 .ensures .value), ap length (c .six-3 .ensures .value)));
+      items =
+          parts (vec-items (c .args .text .now)) (vec-items (c .put .last .text)) (vec-items (c .put-2 .last .text)) (vec-items (c .put-3 .last .text)) (vec-items (c .put-4 .last .text)) (vec-items (c .put-5 .last .text))
+          (c .args .word .now) (c .six .result) (c .six-2 .result) (c .six-3 .result) (c .args .a) (c .args .b) (c .args .c)
+          (c .put .ensures .items) (c .put-2 .ensures .items) (c .put-3 .ensures .items) (c .put-4 .ensures .items) (c .put-5 .ensures .items)
+          (c .six .ensures .value) (c .six-2 .ensures .value) (c .six-3 .ensures .value);
+    }
