@@ -9,23 +9,25 @@ ghost use Rattle.std.specs.Of.Vec.{vec-items, vec-len, vec-cap};
 ghost use Rattle.std.specs.Vec.{made};
 ghost use Rattle.terms.specs.View.{settingsOf};
 ghost use Rattle.gate.specs.View.{sceneOf};
-ghost use Rattle.undertaking.specs.Runs.{replyOf};
+ghost use Rattle.gate.specs.Gate.{step};
+ghost use Rattle.terms.specs.Refusals.{refusalIn};
+ghost use Rattle.undertaking.specs.Runs.{by-refusal, reply, replyOf};
 ghost use Rattle.service.specs.Deeds.{done, reply-to, replies-to, runs};
 ghost use Rattle.service.specs.View.{deedOf, deedsOf, roomOf};
 ghost use Rattle.service.specs.Whole.{Whole};
 use crate::deed::Deed;
 use crate::stage::Stage;
+use gate::Call;
 use gate::Plot;
 use gate::Site;
 use ground::Ground;
 use play::play;
 use std::alloc::AllocError;
 use std::alloc::Global;
+use terms::Refusal;
 use terms::Settings;
 use undertaking::Answer;
 use undertaking::Performance;
-use undertaking::answer_of;
-use undertaking::make;
 
 impl Stage {
     // Room for the columns of any ground, and for so many deeds and their answers.
@@ -54,6 +56,38 @@ impl Stage {
             self.deeds.push_reserved(deed);
         }
         has_room
+    }
+}
+
+// The answer of a call that is granted or refused.
+fn answer_of(result: Result<(), Refusal>) -> Answer
+    ensures { λ r. ⌜ replyOf r ≡ by-refusal (refusalIn result) ⌝ }
+{
+    match result {
+        Ok(()) => Answer::Granted,
+        Err(refusal) => Answer::Refused(refusal),
+    }
+}
+
+// Makes one call.
+fn make<G: Ground>(site: &mut Site<G>, call: Call) -> Answer
+    ensures answer { λ r. ⌜ replyOf r ≡ reply (sceneOf (G·Ground .meaning) (now (site .entry))) call ⌝ }
+    ensures after { λ _. ⌜ sceneOf (G·Ground .meaning) (now (site .exit)) ≡ step (sceneOf (G·Ground .meaning) (now (site .entry))) call ⌝ }
+{
+    match call {
+        Call::Enter { column, block } => answer_of(site.enter(column, block)),
+        Call::Move { from, to } => answer_of(site.move_to(from, to)),
+        Call::Lay { from, to } => answer_of(site.lay(from, to)),
+        Call::Lift { from, to } => answer_of(site.lift(from, to)),
+        Call::Leave { column } => answer_of(site.leave(column)),
+        Call::Tick => {
+            site.tick();
+            Answer::Granted
+        }
+        Call::Recall => match site.recall() {
+            Ok(order) => Answer::Named(order),
+            Err(refusal) => Answer::Refused(refusal),
+        },
     }
 }
 

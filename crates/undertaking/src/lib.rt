@@ -7,7 +7,5 @@ mod tests;
 
 pub use answer::Answer;
 pub use performing::Performance;
-pub use performing::answer_of;
-pub use performing::make;
 pub use performing::perform;
 pub use stage::Stage;

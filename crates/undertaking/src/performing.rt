@@ -30,7 +30,7 @@ pub struct Performance<G: Ground> {
 }
 
 // The answer of a call that is granted or refused.
-pub fn answer_of(result: Result<(), Refusal>) -> Answer
+fn answer_of(result: Result<(), Refusal>) -> Answer
     ensures { λ r. ⌜ replyOf r ≡ by-refusal (refusalIn result) ⌝ }
 {
     match result {
@@ -40,7 +40,7 @@ pub fn answer_of(result: Result<(), Refusal>) -> Answer
 }
 
 // Makes one call.
-pub fn make<G: Ground>(site: &mut Site<G>, call: Call) -> Answer
+pub(crate) fn make<G: Ground>(site: &mut Site<G>, call: Call) -> Answer
     ensures answer { λ r. ⌜ replyOf r ≡ reply (sceneOf (G·Ground .meaning) (now (site .entry))) call ⌝ }
     ensures after { λ _. ⌜ sceneOf (G·Ground .meaning) (now (site .exit)) ≡ step (sceneOf (G·Ground .meaning) (now (site .entry))) call ⌝ }
 {
