@@ -74,178 +74,95 @@ fn obey<G: Ground>(site: &mut Site<G>, actions: u32) -> Result<(), Fail> {
     check_eq(site.robots(), 0)
 }
 
+// The calls of a table.
+fn enter(column: u16, block: bool) -> Call {
+    Call::Enter { column, block }
+}
+
+fn go(from: u16, to: u16) -> Call {
+    Call::Move { from, to }
+}
+
+fn lay(from: u16, to: u16) -> Call {
+    Call::Lay { from, to }
+}
+
+fn lift(from: u16, to: u16) -> Call {
+    Call::Lift { from, to }
+}
+
+fn leave(column: u16) -> Call {
+    Call::Leave { column }
+}
+
 // Each refusal of each call, a move over two heights, the hill from which a lift would strand a robot, and the way home.
 #[test]
 fn on_a_square(rt: LibcRuntime) -> Result<(), Fail> {
     let mut site = Site::open(Plot::new(rt.alloc())?, square(3, 5)?, settings(3, 3, 0)?);
     let rows = [
         Row(Call::Recall, 32, 0, 0),
-        Row(
-            Call::Enter {
-                column: 15,
-                block: false,
-            },
-            23,
-            0,
-            0,
-        ),
-        Row(
-            Call::Enter {
-                column: 6,
-                block: false,
-            },
-            26,
-            0,
-            0,
-        ),
-        Row(
-            Call::Enter {
-                column: 5,
-                block: true,
-            },
-            0,
-            0,
-            0,
-        ),
+        Row(enter(15, false), 23, 0, 0),
+        Row(enter(6, false), 26, 0, 0),
+        Row(enter(5, true), 0, 0, 0),
         Row(Call::Recall, 31, 0, 0),
-        Row(Call::Move { from: 5, to: 6 }, 24, 0, 0),
-        Row(Call::Leave { column: 5 }, 24, 0, 0),
-        Row(
-            Call::Enter {
-                column: 5,
-                block: false,
-            },
-            27,
-            0,
-            1,
-        ),
-        Row(
-            Call::Enter {
-                column: 0,
-                block: false,
-            },
-            0,
-            0,
-            1,
-        ),
-        Row(
-            Call::Enter {
-                column: 1,
-                block: false,
-            },
-            0,
-            0,
-            1,
-        ),
-        Row(
-            Call::Enter {
-                column: 2,
-                block: false,
-            },
-            29,
-            0,
-            0,
-        ),
-        Row(Call::Move { from: 5, to: 99 }, 23, 0, 0),
-        Row(Call::Move { from: 99, to: 5 }, 23, 0, 0),
-        Row(Call::Move { from: 3, to: 4 }, 24, 0, 0),
-        Row(Call::Move { from: 5, to: 7 }, 26, 0, 0),
-        Row(Call::Move { from: 5, to: 0 }, 27, 0, 0),
-        Row(Call::Leave { column: 99 }, 23, 0, 0),
-        Row(Call::Leave { column: 3 }, 24, 0, 0),
-        Row(Call::Lay { from: 5, to: 15 }, 23, 0, 0),
-        Row(Call::Lift { from: 1, to: 15 }, 23, 0, 0),
-        Row(Call::Lay { from: 2, to: 7 }, 24, 0, 0),
-        Row(Call::Lift { from: 2, to: 7 }, 24, 0, 0),
-        Row(Call::Lay { from: 1, to: 6 }, 25, 0, 0),
-        Row(Call::Lift { from: 5, to: 6 }, 25, 0, 0),
-        Row(Call::Lay { from: 5, to: 0 }, 26, 0, 0),
-        Row(Call::Lay { from: 5, to: 7 }, 26, 0, 0),
-        Row(Call::Lift { from: 1, to: 7 }, 26, 0, 0),
-        Row(Call::Lift { from: 1, to: 6 }, 28, 0, 0),
-        Row(Call::Move { from: 1, to: 6 }, 0, 0, 1),
-        Row(Call::Lay { from: 5, to: 6 }, 27, 0, 0),
-        Row(Call::Leave { column: 6 }, 26, 0, 0),
-        Row(Call::Move { from: 0, to: 1 }, 0, 0, 1),
-        Row(Call::Lift { from: 1, to: 6 }, 27, 0, 0),
-        Row(Call::Move { from: 6, to: 7 }, 0, 0, 1),
-        Row(Call::Lay { from: 5, to: 6 }, 0, 0, 0),
+        Row(go(5, 6), 24, 0, 0),
+        Row(leave(5), 24, 0, 0),
+        Row(enter(5, false), 27, 0, 1),
+        Row(enter(0, false), 0, 0, 1),
+        Row(enter(1, false), 0, 0, 1),
+        Row(enter(2, false), 29, 0, 0),
+        Row(go(5, 99), 23, 0, 0),
+        Row(go(99, 5), 23, 0, 0),
+        Row(go(3, 4), 24, 0, 0),
+        Row(go(5, 7), 26, 0, 0),
+        Row(go(5, 0), 27, 0, 0),
+        Row(leave(99), 23, 0, 0),
+        Row(leave(3), 24, 0, 0),
+        Row(lay(5, 15), 23, 0, 0),
+        Row(lift(1, 15), 23, 0, 0),
+        Row(lay(2, 7), 24, 0, 0),
+        Row(lift(2, 7), 24, 0, 0),
+        Row(lay(1, 6), 25, 0, 0),
+        Row(lift(5, 6), 25, 0, 0),
+        Row(lay(5, 0), 26, 0, 0),
+        Row(lay(5, 7), 26, 0, 0),
+        Row(lift(1, 7), 26, 0, 0),
+        Row(lift(1, 6), 28, 0, 0),
+        Row(go(1, 6), 0, 0, 1),
+        Row(lay(5, 6), 27, 0, 0),
+        Row(leave(6), 26, 0, 0),
+        Row(go(0, 1), 0, 0, 1),
+        Row(lift(1, 6), 27, 0, 0),
+        Row(go(6, 7), 0, 0, 1),
+        Row(lay(5, 6), 0, 0, 0),
         Row(Call::Recall, 31, 0, 1),
-        Row(Call::Leave { column: 5 }, 0, 0, 1),
-        Row(
-            Call::Enter {
-                column: 5,
-                block: true,
-            },
-            0,
-            0,
-            1,
-        ),
-        Row(Call::Lay { from: 5, to: 6 }, 28, 0, 0),
-        Row(Call::Lift { from: 1, to: 6 }, 0, 0, 0),
+        Row(leave(5), 0, 0, 1),
+        Row(enter(5, true), 0, 0, 1),
+        Row(lay(5, 6), 28, 0, 0),
+        Row(lift(1, 6), 0, 0, 0),
         Row(Call::Recall, 31, 0, 1),
-        Row(Call::Lay { from: 1, to: 6 }, 0, 0, 1),
-        Row(Call::Move { from: 7, to: 2 }, 0, 0, 1),
-        Row(Call::Leave { column: 2 }, 0, 0, 1),
-        Row(Call::Leave { column: 1 }, 0, 0, 1),
-        Row(Call::Leave { column: 5 }, 0, 0, 1),
-        Row(
-            Call::Enter {
-                column: 2,
-                block: true,
-            },
-            0,
-            0,
-            1,
-        ),
-        Row(Call::Lay { from: 2, to: 7 }, 0, 0, 1),
-        Row(Call::Leave { column: 2 }, 0, 0, 1),
-        Row(
-            Call::Enter {
-                column: 1,
-                block: true,
-            },
-            0,
-            0,
-            1,
-        ),
-        Row(Call::Move { from: 1, to: 6 }, 0, 0, 1),
-        Row(Call::Lay { from: 6, to: 7 }, 0, 0, 1),
-        Row(Call::Lay { from: 6, to: 7 }, 25, 0, 0),
-        Row(Call::Move { from: 6, to: 1 }, 0, 0, 1),
-        Row(Call::Leave { column: 1 }, 0, 0, 1),
-        Row(
-            Call::Enter {
-                column: 2,
-                block: false,
-            },
-            0,
-            0,
-            1,
-        ),
-        Row(Call::Move { from: 2, to: 7 }, 28, 0, 0),
-        Row(Call::Leave { column: 2 }, 0, 0, 1),
-        Row(
-            Call::Enter {
-                column: 1,
-                block: false,
-            },
-            0,
-            0,
-            1,
-        ),
-        Row(Call::Move { from: 1, to: 6 }, 0, 0, 1),
-        Row(Call::Move { from: 6, to: 7 }, 0, 0, 1),
-        Row(
-            Call::Enter {
-                column: 5,
-                block: false,
-            },
-            0,
-            0,
-            1,
-        ),
-        Row(Call::Lift { from: 5, to: 6 }, 30, 7, 0),
+        Row(lay(1, 6), 0, 0, 1),
+        Row(go(7, 2), 0, 0, 1),
+        Row(leave(2), 0, 0, 1),
+        Row(leave(1), 0, 0, 1),
+        Row(leave(5), 0, 0, 1),
+        Row(enter(2, true), 0, 0, 1),
+        Row(lay(2, 7), 0, 0, 1),
+        Row(leave(2), 0, 0, 1),
+        Row(enter(1, true), 0, 0, 1),
+        Row(go(1, 6), 0, 0, 1),
+        Row(lay(6, 7), 0, 0, 1),
+        Row(lay(6, 7), 25, 0, 0),
+        Row(go(6, 1), 0, 0, 1),
+        Row(leave(1), 0, 0, 1),
+        Row(enter(2, false), 0, 0, 1),
+        Row(go(2, 7), 28, 0, 0),
+        Row(leave(2), 0, 0, 1),
+        Row(enter(1, false), 0, 0, 1),
+        Row(go(1, 6), 0, 0, 1),
+        Row(go(6, 7), 0, 0, 1),
+        Row(enter(5, false), 0, 0, 1),
+        Row(lift(5, 6), 30, 7, 0),
     ];
     follow(&mut site, &rows)?;
     check_eq(site.look(6).height, 1)?;
@@ -263,41 +180,17 @@ fn on_a_row(rt: LibcRuntime) -> Result<(), Fail> {
     };
     let mut site = Site::open(Plot::new(rt.alloc())?, row, settings(2, 3, 1)?);
     let rows = [
-        Row(
-            Call::Enter {
-                column: 0,
-                block: false,
-            },
-            0,
-            0,
-            2,
-        ),
-        Row(Call::Move { from: 0, to: 1 }, 0, 0, 1),
-        Row(Call::Move { from: 1, to: 2 }, 0, 0, 1),
-        Row(
-            Call::Enter {
-                column: 0,
-                block: true,
-            },
-            0,
-            0,
-            2,
-        ),
-        Row(
-            Call::Enter {
-                column: 4,
-                block: true,
-            },
-            0,
-            0,
-            2,
-        ),
-        Row(Call::Lay { from: 0, to: 1 }, 0, 0, 0),
+        Row(enter(0, false), 0, 0, 2),
+        Row(go(0, 1), 0, 0, 1),
+        Row(go(1, 2), 0, 0, 1),
+        Row(enter(0, true), 0, 0, 2),
+        Row(enter(4, true), 0, 0, 2),
+        Row(lay(0, 1), 0, 0, 0),
         Row(Call::Recall, 31, 0, 0),
-        Row(Call::Lay { from: 4, to: 3 }, 30, 2, 2),
-        Row(Call::Lay { from: 4, to: 3 }, 0, 0, 0),
-        Row(Call::Lift { from: 0, to: 1 }, 30, 2, 2),
-        Row(Call::Lift { from: 0, to: 1 }, 0, 0, 1),
+        Row(lay(4, 3), 30, 2, 2),
+        Row(lay(4, 3), 0, 0, 0),
+        Row(lift(0, 1), 30, 2, 2),
+        Row(lift(0, 1), 0, 0, 1),
         Row(Call::Recall, 31, 0, 1),
     ];
     follow(&mut site, &rows)?;
@@ -311,50 +204,18 @@ fn on_a_row(rt: LibcRuntime) -> Result<(), Fail> {
 fn in_as_another_has_left(rt: LibcRuntime) -> Result<(), Fail> {
     let mut site = Site::open(Plot::new(rt.alloc())?, square(3, 3)?, settings(2, 1, 3)?);
     let rows = [
-        Row(
-            Call::Enter {
-                column: 1,
-                block: true,
-            },
-            0,
-            0,
-            3,
-        ),
-        Row(Call::Lay { from: 1, to: 4 }, 0, 0, 2),
+        Row(enter(1, true), 0, 0, 3),
+        Row(lay(1, 4), 0, 0, 2),
     ];
     follow(&mut site, &rows)?;
     check_eq(site.look(4).height, 0)?;
     let rows = [
         Row(Call::Tick, 0, 0, 0),
-        Row(Call::Leave { column: 1 }, 0, 0, 2),
-        Row(
-            Call::Enter {
-                column: 1,
-                block: false,
-            },
-            27,
-            0,
-            0,
-        ),
-        Row(
-            Call::Enter {
-                column: 3,
-                block: false,
-            },
-            29,
-            0,
-            1,
-        ),
-        Row(
-            Call::Enter {
-                column: 1,
-                block: false,
-            },
-            0,
-            0,
-            3,
-        ),
-        Row(Call::Lift { from: 1, to: 4 }, 0, 0, 2),
+        Row(leave(1), 0, 0, 2),
+        Row(enter(1, false), 27, 0, 0),
+        Row(enter(3, false), 29, 0, 1),
+        Row(enter(1, false), 0, 0, 3),
+        Row(lift(1, 4), 0, 0, 2),
     ];
     follow(&mut site, &rows)?;
     check_eq(site.blocks_carried(), 1)?;
