@@ -28,6 +28,12 @@ APART = {
     "plan-of": "written_plan",
     "calls-of": "plan_calls",
     "site-of": "order_site",
+    "Border-list": "IsBorderList",
+    "Link-order": "IsLinkOrder",
+    "Goal-misplaced": "IsGoalMisplaced",
+    "End-misplaced": "IsEndMisplaced",
+    "Left-behind": "IsLeftBehind",
+    "Left-standing": "IsLeftStanding",
 }
 
 

@@ -1,4 +1,6 @@
 // Answers every job of a list, as the program verdict does, and writes each answer behind the job's name.
+#![tactic(auto)]
+
 use job::{Desk, answer};
 use std::fs;
 use std::io::Write;

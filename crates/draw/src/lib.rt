@@ -1,4 +1,6 @@
 // Drawing heights into a buffer.
+#![tactic(auto)]
+
 ghost use Rattle.std.specs.Prelude.{◌≡◌, ℕ, ◌+◌, ◌*◌, ◌/◌, ◌<◌, ◌≤◌, ◌++◌, length, drop, if◌then◌else◌, MatchOption};
 ghost use Rattle.terms.specs.Refusals.{Answers};
 ghost use Rattle.draw.specs.Rows.{buffered, cell, draw_refusal, row_text, text};

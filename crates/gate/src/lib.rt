@@ -1,4 +1,6 @@
 // The gate of a site: robots enter, move, lay, lift and leave, time passes, and the hall recalls them.
+#![tactic(auto)]
+
 mod call;
 mod calls;
 mod column;

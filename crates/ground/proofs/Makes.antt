@@ -4,7 +4,7 @@ use Rattle.std.specs.List.{flat_map}
 use Rattle.std.proofs.lemmas.List.{get_or_past}
 use Rattle.std.proofs.lemmas.Bool.{cases_lt, ltb-false, ltb-true, or_from}
 use Rattle.std.proofs.lemmas.Bool.Decides.{nat_tests}
-use Rattle.ground.specs.Listing.{BorderList, Link, ascends, joins, listed, some_joins}
+use Rattle.ground.specs.Listing.{IsBorderList, Link, ascends, joins, listed, some_joins}
 use Rattle.ground.specs.Meaning.{Same, neighbours}
 use Rattle.ground.specs.Members.{has}
 use Rattle.ground.specs.Table.{Filled, entries, in_row, no_row, other, tabled}
@@ -60,7 +60,7 @@ module _ (n : ℕ) where
       let first = first_link n before k ks h in
       or_from (joins c c k) (some_joins c c ks) (joins_self c k.0 k.1 first.lower) (self c k ks first.later)
 
-module _ (n : ℕ) (border : List ℕ) (ks : List Link) (rows : List Row) (list : BorderList n border) (up : ascends n (0, 0) ks ≡ true) (full : Filled border (λ c. flat_map (other c) ks) rows) where
+module _ (n : ℕ) (border : List ℕ) (ks : List Link) (rows : List Row) (list : IsBorderList n border) (up : ascends n (0, 0) ks ≡ true) (full : Filled border (λ c. flat_map (other c) ks) rows) where
   kept : (c : ℕ) → c < n → entries (get_or rows c no_row) ≡ flat_map (other c) ks
   kept c lt = full.keeps c (omega (arith, list.high))
 

@@ -7,7 +7,7 @@ use Rattle.std.proofs.lemmas.Bool.Decides.{Decides-and, Decides-below_or, Decide
 use Rattle.terms.specs.declared.refusal.Rule.TheVariants.{BorderList, LinkOrder, SeventhLink}
 use Rattle.terms.specs.Refusals.{Settles, told}
 use Rattle.terms.proofs.First.{first_settles}
-use Rattle.ground.specs.Listing.{Above, BorderList, Crowded, Inside, Link, LinkOrder, above, ascends, border_fits, crowded, listing_reasons, listing_refusal, touches}
+use Rattle.ground.specs.Listing.{Above, IsBorderList, Crowded, Inside, Link, IsLinkOrder, above, ascends, border_fits, crowded, listing_reasons, listing_refusal, touches}
 
 decides_leb : (a b : ℕ) → Decides (leb a b) (a ≤ b)
 decides_leb a b = (leb-true a b, le-leb a b)
@@ -19,7 +19,7 @@ decides_bits border =
     (λ f. All-from_get_or (λ b. b ≤ 1) border 0 f)
     (Decides-by_and (λ b. leb b 1) (λ b. b ≤ 1) (list_all (λ b. leb b 1)) (λ b. decides_leb b 1) refl (λ _ _. refl) border)
 
-pub decides_border : (columns : ℕ) (border : List ℕ) → Decides (border_fits columns border) (BorderList columns border)
+pub decides_border : (columns : ℕ) (border : List ℕ) → Decides (border_fits columns border) (IsBorderList columns border)
 decides_border columns border =
     Decides-like (border_fits columns border)
     (λ t. record { low = t.0.0; high = t.0.1; long = t.1.0; bits = t.1.1 })
@@ -67,7 +67,7 @@ above_none : (a b : ℕ) → a < b → Above (a, b) (0, 0)
 above_none zero b h = inr (refl, h)
 above_none (suc a) b h = inl (omega arith)
 
-pub decides_order : (columns : ℕ) (links : List Link) → Decides (ascends columns (0, 0) links) (LinkOrder columns links)
+pub decides_order : (columns : ℕ) (links : List Link) → Decides (ascends columns (0, 0) links) (IsLinkOrder columns links)
 decides_order columns links = (
   λ h. record { inside = inside_of columns (0, 0) links h; upward = upward_of columns (0, 0) links h },
   λ o. ascends_from columns (0, 0) links (λ some. above_none _ _ (o.inside 0 some).0) o.inside o.upward,

@@ -31,7 +31,7 @@ abbrev pub border_fits : ℕ → List ℕ → Bool
 border_fits columns border =
     (nat_le 1 columns && nat_le columns 256) && (length border == columns && list_all (λ b. leb b 1) border)
 
-pub record BorderList (columns : ℕ) (border : List ℕ) : Type 0 where
+pub record IsBorderList (columns : ℕ) (border : List ℕ) : Type 0 where
   pub low : 1 ≤ columns
   pub high : columns ≤ 256
   pub long : length border ≡ columns
@@ -54,7 +54,7 @@ abbrev pub Inside : ℕ → List Link → Type 0
 Inside columns links =
     (i : ℕ) → i < length links → ((get_or links i (0, 0)).0 < (get_or links i (0, 0)).1) × ((get_or links i (0, 0)).1 < columns)
 
-pub record LinkOrder (columns : ℕ) (links : List Link) : Type 0 where
+pub record IsLinkOrder (columns : ℕ) (links : List Link) : Type 0 where
   pub inside : Inside columns links
   pub upward : (i : ℕ) → suc i < length links → Above (slice_index_or links (suc i) (0, 0)) (slice_index_or links i (0, 0))
 
@@ -77,4 +77,4 @@ listing_refusal columns border links =
 
 abbrev pub listing_reasons : ℕ → List ℕ → List Link → List Reason
 listing_reasons columns border links =
-    (record { holds = BorderList columns border → ⊥; tells = told BorderList 0 0 }) ∷ (record { holds = LinkOrder columns links → ⊥; tells = told LinkOrder 0 0 }) ∷ (record { holds = Crowded columns links; tells = told SeventhLink 0 0 }) ∷ []
+    (record { holds = IsBorderList columns border → ⊥; tells = told BorderList 0 0 }) ∷ (record { holds = IsLinkOrder columns links → ⊥; tells = told LinkOrder 0 0 }) ∷ (record { holds = Crowded columns links; tells = told SeventhLink 0 0 }) ∷ []

@@ -1,4 +1,6 @@
 // Grounds of block columns: what any kind of ground means and tells.
+#![tactic(auto)]
+
 ghost use Rattle.std.specs.Prelude.{◌≡◌, ℕ, ◌≤◌, length};
 ghost use Rattle.std.specs.List.{slice_get};
 ghost use Rattle.ground.specs.Meaning.{Meaning, Lawful, neighbours};

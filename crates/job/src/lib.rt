@@ -1,4 +1,6 @@
 // Jobs: a job line and a sheet in, the verdict's text out.
+#![tactic(auto)]
+
 mod desk;
 mod line;
 mod opened;

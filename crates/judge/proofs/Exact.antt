@@ -10,7 +10,7 @@ use Rattle.terms.specs.declared.work.Work.TheVariants.{Leave}
 use Rattle.ground.specs.Meaning.{Meaning}
 use Rattle.sheet.specs.View.{Records}
 use Rattle.sheet.specs.declared.record.ActLine.{ActLine}
-use Rattle.plan.specs.Judged.{Collide, Judged, LeftStanding, Meets, Timed}
+use Rattle.plan.specs.Judged.{Collide, Judged, IsLeftStanding, Meets, Timed}
 use Rattle.plan.specs.Lines.{written_action}
 use Rattle.plan.specs.Plan.{Action, carried, end_column, height_at, line, makespan, no_action}
 use Rattle.plan.specs.Reasons.{line_reasons}
@@ -20,7 +20,7 @@ use Rattle.plan.proofs.Judged.{rules_as_judged}
 use Rattle.plan.proofs.Lined.{kept}
 use Rattle.plan.proofs.Searches.{decides_carried, stable}
 use Rattle.judge.specs.Judging.{crowd, from_somewhere, falls, heights_fit}
-use Rattle.judge.specs.Reasons.{LeftBehind, end_reasons, judge_reasons, reasons_at, sheet_reasons}
+use Rattle.judge.specs.Reasons.{IsLeftBehind, end_reasons, judge_reasons, reasons_at, sheet_reasons}
 use Rattle.judge.proofs.Reasoned.{decides_follows, decides_heights, decides_order}
 use Rattle.judge.proofs.Silence.{silent_at, silent_both, silent_on, silent_parts}
 
@@ -35,7 +35,7 @@ module _ (m : Meaning) (s : SiteSettings) where
     line_meets q =
         let k = kept m s l q.0 q.1.0 q.1.1.0 q.1.1.1.0 in
         let j = q.1.1.1.1 in
-        let p = silent_parts (from_on (λ c. record { holds = LeftStanding above a.start c; tells = told LeftStanding a.line c } ∷ []) 0 m.columns) _ j.1 in
+        let p = silent_parts (from_on (λ c. record { holds = IsLeftStanding above a.start c; tells = told LeftStanding a.line c } ∷ []) 0 m.columns) _ j.1 in
         let z = silent_parts (from_on (λ i. record { holds = Collide (line above i) a; tells = told SpansCollide a.line (line above i).line } ∷ []) 0 (length above)) _ p.1.1 in (
           k.marks,
           record {
@@ -43,7 +43,7 @@ module _ (m : Meaning) (s : SiteSettings) where
             joined = k.joined;
             lasts = k.lasts;
             in_order = stable (not (falls above a)) (decides_order above a) j.0;
-            none_left = λ c b. (silent_at (λ c. record { holds = LeftStanding above a.start c; tells = told LeftStanding a.line c } ∷ []) m.columns 0 p.0 c (omega arith) (omega arith)).0;
+            none_left = λ c b. (silent_at (λ c. record { holds = IsLeftStanding above a.start c; tells = told LeftStanding a.line c } ∷ []) m.columns 0 p.0 c (omega arith) (omega arith)).0;
             heights = stable (heights_fit above a) (decides_heights above a) p.1.0;
             apart = λ i b. (silent_at (λ i. record { holds = Collide (line above i) a; tells = told SpansCollide a.line (line above i).line } ∷ []) (length above) 0 z.0 i (omega arith) (omega arith)).0;
             follows = stable (from_somewhere above a) (decides_follows above a) z.1.0;
@@ -63,8 +63,8 @@ module _ (m : Meaning) (s : SiteSettings) where
             λ n. n w.lasts,
             (
               λ n. n w.in_order,
-              silent_both (from_on (λ c. record { holds = LeftStanding above a.start c; tells = told LeftStanding a.line c } ∷ []) 0 m.columns) _
-                  (silent_on (λ c. record { holds = LeftStanding above a.start c; tells = told LeftStanding a.line c } ∷ []) m.columns 0 (λ c _ b. (w.none_left c (omega arith), tt))) (
+              silent_both (from_on (λ c. record { holds = IsLeftStanding above a.start c; tells = told LeftStanding a.line c } ∷ []) 0 m.columns) _
+                  (silent_on (λ c. record { holds = IsLeftStanding above a.start c; tells = told LeftStanding a.line c } ∷ []) m.columns 0 (λ c _ b. (w.none_left c (omega arith), tt))) (
                     λ n. n w.heights,
                     silent_both (from_on (λ i. record { holds = Collide (line above i) a; tells = told SpansCollide a.line (line above i).line } ∷ []) 0 (length above)) _
                         (silent_on (λ i. record { holds = Collide (line above i) a; tells = told SpansCollide a.line (line above i).line } ∷ []) (length above) 0 (λ i _ b. (w.apart i (omega arith), tt)))
@@ -87,9 +87,9 @@ module _ (m : Meaning) (s : SiteSettings) where
     pub end_meets : Silent (end_reasons m plan targets lines) → CarriedOn × Reached
     unfolding end_reasons
     end_meets q =
-        let p = silent_parts (from_on (λ i. record { holds = LeftBehind plan (line plan i); tells = told LeftBehind (line plan i).line 0 } ∷ []) 0 (length plan)) _ q in (
+        let p = silent_parts (from_on (λ i. record { holds = IsLeftBehind plan (line plan i); tells = told LeftBehind (line plan i).line 0 } ∷ []) 0 (length plan)) _ q in (
           λ i l n. stable (carried plan (line plan i).end (end_column (line plan i))) (decides_carried plan (line plan i).end (end_column (line plan i)))
-              (λ out. (silent_at (λ i. record { holds = LeftBehind plan (line plan i); tells = told LeftBehind (line plan i).line 0 } ∷ []) (length plan) 0 p.0 i (omega arith) (omega arith)).0 (n, out)),
+              (λ out. (silent_at (λ i. record { holds = IsLeftBehind plan (line plan i); tells = told LeftBehind (line plan i).line 0 } ∷ []) (length plan) 0 p.0 i (omega arith) (omega arith)).0 (n, out)),
           λ c l. stable (eqb (height_at plan (makespan plan) c) (targets c)) (Decides-eqb _ _)
               (silent_at (λ c. record { holds = height_at plan (makespan plan) c ≡ targets c → ⊥; tells = told TargetMissed lines c } ∷ []) m.columns 0 p.1 c (omega arith) (omega arith)).0,
         )
@@ -97,8 +97,8 @@ module _ (m : Meaning) (s : SiteSettings) where
     pub meets_end : CarriedOn → Reached → Silent (end_reasons m plan targets lines)
     unfolding end_reasons
     meets_end on there =
-        silent_both (from_on (λ i. record { holds = LeftBehind plan (line plan i); tells = told LeftBehind (line plan i).line 0 } ∷ []) 0 (length plan)) _
-        (silent_on (λ i. record { holds = LeftBehind plan (line plan i); tells = told LeftBehind (line plan i).line 0 } ∷ []) (length plan) 0 (λ i _ b. (λ w. w.1 (on i (omega arith) w.0), tt)))
+        silent_both (from_on (λ i. record { holds = IsLeftBehind plan (line plan i); tells = told LeftBehind (line plan i).line 0 } ∷ []) 0 (length plan)) _
+        (silent_on (λ i. record { holds = IsLeftBehind plan (line plan i); tells = told LeftBehind (line plan i).line 0 } ∷ []) (length plan) 0 (λ i _ b. (λ w. w.1 (on i (omega arith) w.0), tt)))
         (silent_on (λ c. record { holds = height_at plan (makespan plan) c ≡ targets c → ⊥; tells = told TargetMissed lines c } ∷ []) m.columns 0 (λ c _ b. (λ n. n (there c (omega arith)), tt)))
 
   -- the sheet

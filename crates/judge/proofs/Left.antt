@@ -8,7 +8,7 @@ use Rattle.terms.specs.Refusals.{first_of, from_on, told}
 use Rattle.terms.specs.declared.refusal.Rule.TheVariants.{LeftStanding}
 use Rattle.terms.specs.declared.work.Work.TheVariants.{Leave}
 use Rattle.ground.specs.Meaning.{Meaning}
-use Rattle.plan.specs.Judged.{LeftStanding}
+use Rattle.plan.specs.Judged.{IsLeftStanding}
 use Rattle.plan.specs.Plan.{Action, carried, end_column, is_leave, line, no_action}
 use Rattle.plan.specs.Rules.{Carried}
 use Rattle.plan.proofs.Searches.{decides_carried, decides_leb, decides_no_leave, decides_some_of}
@@ -30,7 +30,7 @@ decides_between above s t b =
     (Decides-and (leb s b.end) _ (decides_leb _ _)
     (Decides-and (ltb b.end t) _ (Decides-ltb _ _) (Decides-not (carried above b.end (end_column b)) (decides_carried above b.end (end_column b)))))
 
-pub decides_left : (above : List Action) (t c : ℕ) → Decides (left_standing above t c) (LeftStanding above t c)
+pub decides_left : (above : List Action) (t c : ℕ) → Decides (left_standing above t c) (IsLeftStanding above t c)
 decides_left above t c =
     Decides-like (left_standing above t c)
     (λ w. (w.0, w.1, w.2.0, w.2.1.0, w.2.1.1.0, w.2.1.1.1))
@@ -39,14 +39,14 @@ decides_left above t c =
 
 module _ (m : Meaning) (above : List Action) (t : ℕ) (so : Settled m above) where
   -- one that was left standing ended at the last start or later
-  recent : (c : ℕ) → LeftStanding above t c → (i : ℕ) × (i < length above) × (left_between above (latest_start above) t (line above i) ≡ true) × (end_column (line above i) ≡ c)
+  recent : (c : ℕ) → IsLeftStanding above t c → (i : ℕ) × (i < length above) × (left_between above (latest_start above) t (line above i) ≡ true) × (end_column (line above i) ≡ c)
   recent c (i, l, n, b, e, out) =
       let out' : Carried above (line above i).end (end_column (line above i)) → ⊥ = λ w. out (subst (λ (x : ℕ). Carried above (line above i).end x) e w) in
       let late : latest_start above ≤ (line above i).end =
       elim (cases_lt (line above i).end (latest_start above)) [ inl g ↦ absurd (out' (so.carried_on i l n g)) | inr g ↦ g ] in
       (i, l, (decides_between above (latest_start above) t (line above i)).1 (n, (late, (b, out'))), e)
 
-  stood : (i : ℕ) → i < length above → left_between above (latest_start above) t (line above i) ≡ true → LeftStanding above t (end_column (line above i))
+  stood : (i : ℕ) → i < length above → left_between above (latest_start above) t (line above i) ≡ true → IsLeftStanding above t (end_column (line above i))
   stood i l y = let w = (decides_between above (latest_start above) t (line above i)).0 y in (i, l, w.0, w.1.1.0, refl, w.1.1.1)
 
   not_so : (b : Bool) → (b ≡ true → ⊥) → b ≡ false
@@ -60,7 +60,7 @@ module _ (m : Meaning) (above : List Action) (t : ℕ) (so : Settled m above) wh
   left_first number (Some c) low =
       let (i, l, p, e) = low.0 in
       lowest_from (left_standing above t) (told LeftStanding number) m.columns 0 c (omega arith) (omega (arith, so.grounded i l))
-      ((decides_left above t c).1 (subst (LeftStanding above t) e (stood i l p)))
+      ((decides_left above t c).1 (subst (IsLeftStanding above t) e (stood i l p)))
       (λ d _ b. not_so (left_standing above t d) (λ y. let (k, lk, pk, ek) = recent d ((decides_left above t d).0 y) in omega (arith, low.1 k lk pk)))
 
   -- the same with the times as the code has them

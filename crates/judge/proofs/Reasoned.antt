@@ -11,7 +11,7 @@ use Rattle.terms.proofs.First.{Decide, decide_append, decide_on, first_settles}
 use Rattle.ground.specs.Meaning.{Meaning}
 use Rattle.sheet.specs.View.{Records}
 use Rattle.sheet.specs.declared.record.ActLine.{ActLine}
-use Rattle.plan.specs.Judged.{Collide, InOrder, LeftStanding}
+use Rattle.plan.specs.Judged.{Collide, InOrder, IsLeftStanding}
 use Rattle.plan.specs.Lines.{written_action, line_tests}
 use Rattle.plan.specs.Plan.{Action, Ends, Touches, carried, carry_after, end_column, ends, height_at, is_entry, is_leave, line, makespan, no_action, shares, some_of}
 use Rattle.plan.specs.Reasons.{line_reasons}
@@ -19,7 +19,7 @@ use Rattle.plan.specs.Rules.{Follows, Heights, Written, written_plan, target_of,
 use Rattle.plan.proofs.Lined.{decides_alike, line_decides}
 use Rattle.plan.proofs.Searches.{decides_carried, decides_ends, decides_leb, decides_no_entry, decides_no_leave, decides_some_of}
 use Rattle.judge.specs.Judging.{collide, crowd, end_tests, falls, fits, from_somewhere, goes_on_from, heights_fit, judge_tests, latest_start, left_behind, left_standing, missed, overlap, sheet_tests, tests_at}
-use Rattle.judge.specs.Reasons.{LeftBehind, end_reasons, judge_reasons, reasons_at, sheet_reasons}
+use Rattle.judge.specs.Reasons.{IsLeftBehind, end_reasons, judge_reasons, reasons_at, sheet_reasons}
 use Rattle.judge.proofs.Left.{decides_left}
 use Rattle.judge.proofs.Single.{decides_overlap}
 
@@ -109,7 +109,7 @@ decides_follows above a =
     go f (inl e) found = or_left (is_entry a.work) (some_of (goes_on_from a) above) e
     go f (inr e) found = or_right (is_entry a.work) (some_of (goes_on_from a) above) (found (f ((decides_no_entry a.work).0 (ap not e))))
 
-pub decides_behind : (plan : List Action) (a : Action) → Decides (left_behind plan a) (LeftBehind plan a)
+pub decides_behind : (plan : List Action) (a : Action) → Decides (left_behind plan a) (IsLeftBehind plan a)
 decides_behind plan a =
     Decides-and (not (is_leave a.work)) _ (decides_no_leave a.work) (Decides-not (carried plan a.end (end_column a)) (decides_carried plan a.end (end_column a)))
 
@@ -126,8 +126,8 @@ judge_decides m s above a = (
   decides_falls above a,
   refl,
   decide_append (from_on (λ c. (left_standing above a.start c, told LeftStanding a.line c) ∷ []) 0 m.columns) _
-      (from_on (λ c. record { holds = LeftStanding above a.start c; tells = told LeftStanding a.line c } ∷ []) 0 m.columns) _
-      (decide_on (λ c. (left_standing above a.start c, told LeftStanding a.line c) ∷ []) (λ c. record { holds = LeftStanding above a.start c; tells = told LeftStanding a.line c } ∷ [])
+      (from_on (λ c. record { holds = IsLeftStanding above a.start c; tells = told LeftStanding a.line c } ∷ []) 0 m.columns) _
+      (decide_on (λ c. (left_standing above a.start c, told LeftStanding a.line c) ∷ []) (λ c. record { holds = IsLeftStanding above a.start c; tells = told LeftStanding a.line c } ∷ [])
       (λ c. (decides_left above a.start c, refl, tt)) 0 m.columns) (
         Decides-not (heights_fit above a) (decides_heights above a),
         refl,
@@ -146,8 +146,8 @@ end_decides : (m : Meaning) (plan : List Action) (targets : ℕ → ℕ) (lines 
 unfolding end_tests end_reasons
 end_decides m plan targets lines =
     decide_append (from_on (λ i. (left_behind plan (line plan i), told LeftBehind (line plan i).line 0) ∷ []) 0 (length plan)) _
-    (from_on (λ i. record { holds = LeftBehind plan (line plan i); tells = told LeftBehind (line plan i).line 0 } ∷ []) 0 (length plan)) _
-    (decide_on (λ i. (left_behind plan (line plan i), told LeftBehind (line plan i).line 0) ∷ []) (λ i. record { holds = LeftBehind plan (line plan i); tells = told LeftBehind (line plan i).line 0 } ∷ [])
+    (from_on (λ i. record { holds = IsLeftBehind plan (line plan i); tells = told LeftBehind (line plan i).line 0 } ∷ []) 0 (length plan)) _
+    (decide_on (λ i. (left_behind plan (line plan i), told LeftBehind (line plan i).line 0) ∷ []) (λ i. record { holds = IsLeftBehind plan (line plan i); tells = told LeftBehind (line plan i).line 0 } ∷ [])
     (λ i. (decides_behind plan (line plan i), refl, tt)) 0 (length plan))
     (decide_on (λ c. (missed plan targets (makespan plan) c, told TargetMissed lines c) ∷ []) (λ c. record { holds = height_at plan (makespan plan) c ≡ targets c → ⊥; tells = told TargetMissed lines c } ∷ [])
     (λ c. (Decides-not (eqb (height_at plan (makespan plan) c) (targets c)) (Decides-eqb _ _), refl, tt)) 0 m.columns)

@@ -8,7 +8,7 @@ use Rattle.ground.specs.Meaning.{Meaning}
 use Rattle.sheet.specs.Reasons.{reading_reasons}
 use Rattle.sheet.specs.View.{Records, records_in}
 use Rattle.sheet.specs.declared.record.ActLine.{ActLine}
-use Rattle.plan.specs.Judged.{Collide, InOrder, LeftStanding}
+use Rattle.plan.specs.Judged.{Collide, InOrder, IsLeftStanding}
 use Rattle.plan.specs.Lines.{written_action}
 use Rattle.plan.specs.Plan.{Action, end_column, height_at, line, makespan}
 use Rattle.plan.specs.Reasons.{line_reasons}
@@ -19,7 +19,7 @@ use Rattle.judge.specs.Judging.{crowd}
 unfoldable pub judge_reasons : Meaning → SiteSettings → List Action → Action → List Reason
 judge_reasons m s above a =
     record { holds = InOrder above a → ⊥; tells = told StartFalls a.line 0 }
-    ∷ (from_on (λ c. record { holds = LeftStanding above a.start c; tells = told LeftStanding a.line c } ∷ []) 0 m.columns
+    ∷ (from_on (λ c. record { holds = IsLeftStanding above a.start c; tells = told LeftStanding a.line c } ∷ []) 0 m.columns
     ++ (record { holds = Heights above a → ⊥; tells = told WrongHeightsWritten a.line 0 }
     ∷ (from_on (λ i. record { holds = Collide (line above i) a; tells = told SpansCollide a.line (line above i).line } ∷ []) 0 (length above)
     ++ (record { holds = (a.work ≢ Entry → Follows above (length above) a) → ⊥; tells = told FromNowhere a.line 0 }
@@ -30,13 +30,13 @@ abbrev pub reasons_at : Meaning → SiteSettings → List ActLine → ℕ → Li
 reasons_at m s acts k = line_reasons m s (written acts k) ++ judge_reasons m s (take k (written_plan acts)) (written_action (written acts k))
 
 -- an action, no leave, from whose end column no action starts at its end
-abbrev pub LeftBehind : List Action → Action → Type 0
-LeftBehind plan a = (a.work ≢ Leave) × (Carried plan a.end (end_column a) → ⊥)
+abbrev pub IsLeftBehind : List Action → Action → Type 0
+IsLeftBehind plan a = (a.work ≢ Leave) × (Carried plan a.end (end_column a) → ⊥)
 
 -- those that a plan may break at the sheet's end
 unfoldable pub end_reasons : Meaning → List Action → (ℕ → ℕ) → ℕ → List Reason
 end_reasons m plan targets lines =
-    from_on (λ i. record { holds = LeftBehind plan (line plan i); tells = told LeftBehind (line plan i).line 0 } ∷ []) 0 (length plan)
+    from_on (λ i. record { holds = IsLeftBehind plan (line plan i); tells = told LeftBehind (line plan i).line 0 } ∷ []) 0 (length plan)
     ++ from_on (λ c. record { holds = height_at plan (makespan plan) c ≡ targets c → ⊥; tells = told TargetMissed lines c } ∷ []) 0 m.columns
 
 abbrev pub sheet_reasons : Meaning → SiteSettings → Records → List Reason

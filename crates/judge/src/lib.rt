@@ -1,4 +1,6 @@
 // Judging: whether a plan sheet keeps every rule, and what an accepted plan comes to.
+#![tactic(auto)]
+
 mod above;
 mod accepted;
 mod accepting;

@@ -8,7 +8,7 @@ use Rattle.std.proofs.lemmas.Bool.{cases_lt, cases_order, le-leb, lt-leb, and_le
 use Rattle.terms.specs.Durations.{SiteSettings}
 use Rattle.terms.specs.declared.work.Work.TheVariants.{Entry, Leave}
 use Rattle.ground.specs.Meaning.{Meaning}
-use Rattle.plan.specs.Judged.{Judged, LeftStanding, RulesAsJudged, Timed}
+use Rattle.plan.specs.Judged.{Judged, IsLeftStanding, RulesAsJudged, Timed}
 use Rattle.plan.specs.Plan.{Action, Ends, Runs, Starts, Touches, carry_after, delivers, end_column, height_at, is_deliver, is_pick_up, line, makespan, no_action, picks, runs}
 use Rattle.plan.specs.Rules.{Follows, Heights, Rules, Written}
 use Rattle.plan.proofs.Busiest.{busiest}
@@ -180,7 +180,7 @@ module _ {m : Meaning} {s : SiteSettings} {plan : List Action} {targets : ℕ �
           let g : i < k = omega (arith, size k l) in
           subst (λ (a : Action). a.start ≤ (line plan k).start) (sym (front plan k i g)) (ru.in_order i k (omega arith) l)
 
-      none_left : (k c : ℕ) → k < length plan → LeftStanding (take k plan) (line plan k).start c → ⊥
+      none_left : (k c : ℕ) → k < length plan → IsLeftStanding (take k plan) (line plan k).start c → ⊥
       none_left k c l (i, li, n, b, e, out) =
           let g : i < k = omega (arith, size k l) in
           let f = front plan k i g in

@@ -14,8 +14,8 @@ abbrev pub InOrder : List Action → Action → Type 0
 InOrder above a = (k : ℕ) → suc k ≡ length above → (line above k).start ≤ a.start
 
 -- an action above, no leave, ended at the column c before the time t, and none above starts there then
-abbrev pub LeftStanding : List Action → ℕ → ℕ → Type 0
-LeftStanding above t c =
+abbrev pub IsLeftStanding : List Action → ℕ → ℕ → Type 0
+IsLeftStanding above t c =
     (i : ℕ) × (i < length above) × ((line above i).work ≢ Leave) × ((line above i).end < t) × (end_column (line above i) ≡ c)
     × (Carried above (line above i).end c → ⊥)
 
@@ -29,7 +29,7 @@ pub record Meets (m : Meaning) (s : SiteSettings) (above : List Action) (a : Act
   pub joined : Joined m a.work a.from a.to
   pub lasts : a.end ≡ due s a
   pub in_order : InOrder above a
-  pub none_left : (c : ℕ) → c < m.columns → LeftStanding above a.start c → ⊥
+  pub none_left : (c : ℕ) → c < m.columns → IsLeftStanding above a.start c → ⊥
   pub heights : Heights above a
   pub apart : (i : ℕ) → i < length above → Collide (line above i) a → ⊥
   pub follows : a.work ≢ Entry → Follows above (length above) a

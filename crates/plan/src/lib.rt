@@ -1,4 +1,6 @@
 // Plans: the actions that lines of a sheet stand for, and the rules that a line has to keep by itself.
+#![tactic(auto)]
+
 mod action;
 mod actions;
 mod asked;

@@ -1,4 +1,6 @@
 // Playing plans on a site.
+#![tactic(auto)]
+
 mod player;
 mod spent;
 mod stands;

@@ -1,4 +1,6 @@
 // All eight calls: a site is opened, and a whole list of them is made.
+#![tactic(auto)]
+
 mod deed;
 mod performing;
 mod stage;

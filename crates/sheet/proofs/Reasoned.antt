@@ -14,7 +14,7 @@ use Rattle.sheet.specs.declared.record.Record.TheVariants.{Goal, Act, Note, End}
 use Rattle.sheet.specs.declared.target.Target.{Target}
 use Rattle.sheet.specs.Lines.{Word, bad_field, bad_shape, fields, misshapen, plain_byte, printable, word, word_in}
 use Rattle.sheet.specs.Reading.{acts, bad_sheet, end_misplaced, goal_fits, goal_misplaced, line_at, lines_in, reading_refusal, rises, shown_at, targets, tests_at}
-use Rattle.sheet.specs.Reasons.{BadSheet, BadShape, EndMisplaced, GoalFits, GoalMisplaced, Printable, reading_reasons, reasons_at}
+use Rattle.sheet.specs.Reasons.{BadSheet, BadShape, IsEndMisplaced, GoalFits, IsGoalMisplaced, Printable, reading_reasons, reasons_at}
 
 decides_leb : (a b : ℕ) → Decides (leb a b) (a ≤ b)
 decides_leb a b = grind (arith, nat_tests)
@@ -76,20 +76,20 @@ goal_decides m s ts n c h =
     (Decides-and (not (m.border c)) _ (λ e. not-true (m.border c) e, λ e. not_from_false (m.border c) e)
     (Decides-and (leb 1 h) _ (decides_leb 1 h) (Decides-ltb h s.levels))))))
 
-no_goal : (m : Meaning) (s : SiteSettings) (ts : List Target) (n : ℕ) (r : Option Record) → ((c h : ℕ) → r ≡ Some (Goal c h) → ⊥) → Decides false (GoalMisplaced m s ts n r)
+no_goal : (m : Meaning) (s : SiteSettings) (ts : List Target) (n : ℕ) (r : Option Record) → ((c h : ℕ) → r ≡ Some (Goal c h) → ⊥) → Decides false (IsGoalMisplaced m s ts n r)
 no_goal m s ts n r none = (λ e. absurd (true≢false (sym e)), back)
   where
-    back : GoalMisplaced m s ts n r → false ≡ true
-    back (GoalMisplaced.goal_misplaced c h e f) = absurd (none c h e)
+    back : IsGoalMisplaced m s ts n r → false ≡ true
+    back (IsGoalMisplaced.goal_misplaced c h e f) = absurd (none c h e)
 
-misplaced_decides : (m : Meaning) (s : SiteSettings) (ts : List Target) (n : ℕ) (r : Option Record) → Decides (goal_misplaced m s ts n r) (GoalMisplaced m s ts n r)
+misplaced_decides : (m : Meaning) (s : SiteSettings) (ts : List Target) (n : ℕ) (r : Option Record) → Decides (goal_misplaced m s ts n r) (IsGoalMisplaced m s ts n r)
 misplaced_decides m s ts n None = no_goal m s ts n None (λ c h e. let z : ◌≡◌ {A = ℕ} 0 1 = cc in omega arith)
 misplaced_decides m s ts n (Some (Goal c h)) =
     let d = Decides-not (goal_fits m s ts n c h) (goal_decides m s ts n c h) in
-    (λ e. GoalMisplaced.goal_misplaced c h refl (d.0 e), λ p. d.1 (back p))
+    (λ e. IsGoalMisplaced.goal_misplaced c h refl (d.0 e), λ p. d.1 (back p))
   where
-    back : GoalMisplaced m s ts n (Some (Goal c h)) → GoalFits m s ts n c h → ⊥
-    back (GoalMisplaced.goal_misplaced c' h' e f) g =
+    back : IsGoalMisplaced m s ts n (Some (Goal c h)) → GoalFits m s ts n c h → ⊥
+    back (IsGoalMisplaced.goal_misplaced c' h' e f) g =
         let ec : c ≡ c' = cc in
         let eh : h ≡ h' = cc in
         f (subst (λ x. GoalFits m s ts n x h') ec (subst (λ y. GoalFits m s ts n c y) eh g))
@@ -98,30 +98,30 @@ misplaced_decides m s ts n (Some Note) = no_goal m s ts n (Some Note) (λ c h e.
 misplaced_decides m s ts n (Some (End k)) = no_goal m s ts n (Some (End k)) (λ c h e. let z : ◌≡◌ {A = ℕ} 0 1 = cc in omega arith)
 
 -- a line that is no END is misplaced just where it is the last
-no_end_decides : (b : Bool) (P : Type 0) (n : ℕ) (r : Option Record) → ((k : ℕ) → r ≡ Some (End k) → ⊥) → Decides b P → Decides b (EndMisplaced P n r)
-no_end_decides b P n r none d = (λ e. EndMisplaced.no_end (d.0 e) (none n), back)
+no_end_decides : (b : Bool) (P : Type 0) (n : ℕ) (r : Option Record) → ((k : ℕ) → r ≡ Some (End k) → ⊥) → Decides b P → Decides b (IsEndMisplaced P n r)
+no_end_decides b P n r none d = (λ e. IsEndMisplaced.no_end (d.0 e) (none n), back)
   where
-    back : EndMisplaced P n r → b ≡ true
-    back (EndMisplaced.no_end p f) = d.1 p
-    back (EndMisplaced.early_end f k e) = absurd (none k e)
+    back : IsEndMisplaced P n r → b ≡ true
+    back (IsEndMisplaced.no_end p f) = d.1 p
+    back (IsEndMisplaced.early_end f k e) = absurd (none k e)
 
-end_decides : (b : Bool) (P : Type 0) (n k : ℕ) → Decides b P → Decides (not (b && eqb k n)) (EndMisplaced P n (Some (End k)))
+end_decides : (b : Bool) (P : Type 0) (n k : ℕ) → Decides b P → Decides (not (b && eqb k n)) (IsEndMisplaced P n (Some (End k)))
 end_decides b P n k d = (there (cases_Bool b), back)
   where
-    there : (b ≡ true) ⊎ (b ≡ false) → not (b && eqb k n) ≡ true → EndMisplaced P n (Some (End k))
+    there : (b ≡ true) ⊎ (b ≡ false) → not (b && eqb k n) ≡ true → IsEndMisplaced P n (Some (End k))
     there (inl t) e =
-        EndMisplaced.no_end (d.0 t) (λ q. let k_is : k ≡ n = cc in true≢false (sym (and_from b (eqb k n) t (eq-eqb k n k_is)) ∙ not-true (b && eqb k n) e))
-    there (inr f) e = EndMisplaced.early_end (λ p. true≢false (sym (d.1 p) ∙ f)) k refl
+        IsEndMisplaced.no_end (d.0 t) (λ q. let k_is : k ≡ n = cc in true≢false (sym (and_from b (eqb k n) t (eq-eqb k n k_is)) ∙ not-true (b && eqb k n) e))
+    there (inr f) e = IsEndMisplaced.early_end (λ p. true≢false (sym (d.1 p) ∙ f)) k refl
 
-    back : EndMisplaced P n (Some (End k)) → not (b && eqb k n) ≡ true
-    back (EndMisplaced.no_end p f) = not_from_false (b && eqb k n) (and_right b (eqb k n) (ne_eqb k n (λ e. f (ap (λ (x : ℕ). Some (End x)) e))))
-    back (EndMisplaced.early_end f j e) = not_from_false (b && eqb k n) (and_left b (eqb k n) (not_yes (cases_Bool b)))
+    back : IsEndMisplaced P n (Some (End k)) → not (b && eqb k n) ≡ true
+    back (IsEndMisplaced.no_end p f) = not_from_false (b && eqb k n) (and_right b (eqb k n) (ne_eqb k n (λ e. f (ap (λ (x : ℕ). Some (End x)) e))))
+    back (IsEndMisplaced.early_end f j e) = not_from_false (b && eqb k n) (and_left b (eqb k n) (not_yes (cases_Bool b)))
       where
         not_yes : (b ≡ true) ⊎ (b ≡ false) → b ≡ false
         not_yes (inl t) = absurd (f (d.0 t))
         not_yes (inr g) = g
 
-ends_decides : (b : Bool) (P : Type 0) (n : ℕ) (r : Option Record) → Decides b P → Decides (end_misplaced b n r) (EndMisplaced P n r)
+ends_decides : (b : Bool) (P : Type 0) (n : ℕ) (r : Option Record) → Decides b P → Decides (end_misplaced b n r) (IsEndMisplaced P n r)
 ends_decides b P n None d = no_end_decides b P n None (λ k e. let z : ◌≡◌ {A = ℕ} 0 1 = cc in omega arith) d
 ends_decides b P n (Some (Goal c h)) d = no_end_decides b P n (Some (Goal c h)) (λ k e. let z : ◌≡◌ {A = ℕ} 0 1 = cc in omega arith) d
 ends_decides b P n (Some (Act a)) d = no_end_decides b P n (Some (Act a)) (λ k e. let z : ◌≡◌ {A = ℕ} 0 1 = cc in omega arith) d

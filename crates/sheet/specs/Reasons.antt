@@ -36,13 +36,13 @@ pub record GoalFits (m : Meaning) (s : SiteSettings) (ts : List Target) (n c h :
   pub some_height : 1 ≤ h
   pub not_too_high : h < s.levels
 
-pub data GoalMisplaced (m : Meaning) (s : SiteSettings) (ts : List Target) (n : ℕ) (r : Option Record) : Type 0 where
-  goal_misplaced : (c h : ℕ) → r ≡ Some (Goal c h) → (GoalFits m s ts n c h → ⊥) → GoalMisplaced m s ts n r
+pub data IsGoalMisplaced (m : Meaning) (s : SiteSettings) (ts : List Target) (n : ℕ) (r : Option Record) : Type 0 where
+  goal_misplaced : (c h : ℕ) → r ≡ Some (Goal c h) → (GoalFits m s ts n c h → ⊥) → IsGoalMisplaced m s ts n r
 
 -- the last line is not an END with the number of the actions, or another line is an END
-pub data EndMisplaced (last : Type 0) (n : ℕ) (r : Option Record) : Type 0 where
-  no_end : last → (r ≢ Some (End n)) → EndMisplaced last n r
-  early_end : (last → ⊥) → (k : ℕ) → r ≡ Some (End k) → EndMisplaced last n r
+pub data IsEndMisplaced (last : Type 0) (n : ℕ) (r : Option Record) : Type 0 where
+  no_end : last → (r ≢ Some (End n)) → IsEndMisplaced last n r
+  early_end : (last → ⊥) → (k : ℕ) → r ≡ Some (End k) → IsEndMisplaced last n r
 
 -- the rules that line i may break, in the order of precedence
 abbrev pub reasons_at : Meaning → SiteSettings → List ℕ → ℕ → List Reason
@@ -52,8 +52,8 @@ reasons_at m s sheet i =
       holds = (k : ℕ) × (bad_field (suc i) (line_at sheet i) ≡ Some k);
       tells = told FieldUnreadable (suc i) (unwrap_or (bad_field (suc i) (line_at sheet i)) 0);
     }
-    ∷ record { holds = GoalMisplaced m s (targets sheet i) (length (acts sheet i)) (shown_at sheet i); tells = told GoalMisplaced (suc i) 0 }
-    ∷ record { holds = EndMisplaced (suc i ≡ lines_in sheet) (length (acts sheet i)) (shown_at sheet i); tells = told EndMisplaced (suc i) 0 }
+    ∷ record { holds = IsGoalMisplaced m s (targets sheet i) (length (acts sheet i)) (shown_at sheet i); tells = told GoalMisplaced (suc i) 0 }
+    ∷ record { holds = IsEndMisplaced (suc i ≡ lines_in sheet) (length (acts sheet i)) (shown_at sheet i); tells = told EndMisplaced (suc i) 0 }
     ∷ []
 
 -- the shape of the sheet, then its lines, one after another

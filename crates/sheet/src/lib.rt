@@ -1,4 +1,6 @@
 // Plan sheets: lines of fixed width, read into targets and actions as they are written.
+#![tactic(auto)]
+
 mod field;
 mod figure;
 mod line;

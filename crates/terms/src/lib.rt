@@ -1,4 +1,6 @@
 // What every part shares: the refusals, the kinds of work that a robot does, and the settings of a site.
+#![tactic(auto)]
+
 mod durations;
 mod making;
 mod refusal;

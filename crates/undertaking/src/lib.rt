@@ -1,4 +1,6 @@
 // What is undertaken of a site: it is opened, and a whole list of calls is made.
+#![tactic(auto)]
+
 mod answer;
 mod performing;
 mod stage;

@@ -1,4 +1,6 @@
 // Reads a job from standard input and writes the verdict.
+#![tactic(auto)]
+
 use job::{Desk, answer};
 use std::io;
 use std::io::{Read, Write};

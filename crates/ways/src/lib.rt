@@ -1,4 +1,6 @@
 // Ways home: the fewest steps from each column to the border, over any ground.
+#![tactic(auto)]
+
 mod found;
 mod links;
 mod search;

@@ -1,4 +1,6 @@
 // The worked examples of the definitions.
+#![tactic(auto)]
+
 ghost use Rattle.std.specs.Prelude.{◌≡◌, length};
 ghost use Rattle.worked.specs.Examples.{ExamplesHold, examples};
 
