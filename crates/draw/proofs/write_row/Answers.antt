@@ -25,7 +25,7 @@ close hs out i e long inv =
     ∙ ap (λ (t : List ℕ). t ++ (10 ∷ [])) (inv ∙ ap (flat_map cell) (take_all i hs (omega arith)))
 
 pub loop-i-preserved : goal.loop-i-preserved
-loop-i-preserved c = step c.args.heights.now c.loop-i.out c.write-cell.new.out c.loop-i.i _ (omega arith) (omega arith) c.loop-i.invariant c.write-cell.ensures
+loop-i-preserved c = step c.args.heights.now c.loop-i.out c.write_cell.new.out c.loop-i.i _ (omega arith) (omega arith) c.loop-i.invariant c.write_cell.ensures
 
 pub returns : goal.returns
 returns c = close c.args.heights.now c.loop-i.out c.loop-i.i (omega arith) (omega arith) c.loop-i.invariant

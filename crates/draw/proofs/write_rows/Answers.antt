@@ -40,8 +40,8 @@ whole hs out was rest at far inv none same =
     let n : at ≡ length (text hs) = sym (length-take-le at out far) ∙ ap length all in
     (n, sym (take-append-drop at out) ∙ ap (λ (l : List ℕ). l ++ drop at out) all ∙ ap (λ (l : List ℕ). text hs ++ l) (same ∙ ap (λ (m : ℕ). drop m was) n))
 
-pub slice-bounds-write-row-end : goal.slice-bounds-write-row-end
-slice-bounds-write-row-end c =
+pub slice_bounds-write_row-end : goal.slice_bounds-write_row-end
+slice_bounds-write_row-end c =
     let s = c.in-Some.ensures.steps.1 in
     let i = c.loop-row.invariant in
     let split = text_split (chunks_rest c.loop-row.row-iterator) c.in-Some.row.now (chunks_rest c.next.new.self) s.0 (omega arith) s.2 in
@@ -56,16 +56,16 @@ loop-row-preserved c =
     let i = c.loop-row.invariant in
     let split = text_split (chunks_rest c.loop-row.row-iterator) c.in-Some.row.now (chunks_rest c.next.new.self) s.1.0 (omega arith) s.1.2 in
     let size = length_text c.args.heights.now in
-    let ys = ap length c.write-row.ensures ∙ length_row c.in-Some.row.now in
+    let ys = ap length c.write_row.ensures ∙ length_row c.in-Some.row.now in
     let h = room c.args.heights.now c.loop-row.out (chunks_rest c.loop-row.row-iterator) c.in-Some.row.now (chunks_rest c.next.new.self) c.loop-row.at
     i.3 (omega arith) i.4 split in (
-      tt,
+      omega arith,
       omega arith,
       omega arith,
       search (rules, overwrites),
-      drawn c.args.heights.now c.loop-row.out (chunks_rest c.loop-row.row-iterator) c.in-Some.row.now (chunks_rest c.next.new.self) c.write-row.new.out c.loop-row.at _ _
-          i.3 (omega arith) c.write-row.ensures i.4 split,
-      behind c.loop-row.out c.args.out.now c.write-row.new.out c.loop-row.at _ _ i.3 (omega arith) (omega arith) i.5,
+      drawn c.args.heights.now c.loop-row.out (chunks_rest c.loop-row.row-iterator) c.in-Some.row.now (chunks_rest c.next.new.self) c.write_row.new.out c.loop-row.at _ _
+          i.3 (omega arith) c.write_row.ensures i.4 split,
+      behind c.loop-row.out c.args.out.now c.write_row.new.out c.loop-row.at _ _ i.3 (omega arith) (omega arith) i.5,
     )
 
 pub returns : goal.returns

@@ -5,7 +5,7 @@ use Rattle.std.proofs.lemmas.List.{at_drop_all}
 use Rattle.ground.specs.Members.{somes}
 use Rattle.ground.proofs.Picks.{pick_here, pick_later, pick_past}
 use Rattle.ground.proofs.square_ground.pick.Goals as goal
-use Rattle.ground.proofs.square_ground.pick.Goals.{in-Some+else-left-eq0, in-default}
+use Rattle.ground.proofs.square_ground.pick.Goals.{in-Some+else-left-eq0, in_default}
 
 pub returns-then-left-eq0 : goal.returns-then-left-eq0
 returns-then-left-eq0 c =
@@ -18,7 +18,7 @@ loop-side-preserved c =
     let lt = c.loop-side-test.true in
     elim c.match-side.branch [
       | in-Some+else-left-eq0 w ↦ ap (slice_get _) w.left-is ∙ sym (pick_later os i lt w.in-Some.linked c.loop-side.left w.in-Some.is (omega (arith, w.if-left-eq0.false))) ∙ c.loop-side.invariant
-      | in-default w ↦ ap (slice_get _) w.left-is ∙ sym (pick_past os i lt c.loop-side.left w.in-default.is) ∙ c.loop-side.invariant
+      | in_default w ↦ ap (slice_get _) w.left-is ∙ sym (pick_past os i lt c.loop-side.left w.in_default.is) ∙ c.loop-side.invariant
     ]
 
 pub returns : goal.returns

@@ -16,15 +16,15 @@ none n i bs h e = at_drop_more (digits n) bs i 0 h ∙ ap (λ (t : Bool). cond t
 small : (i : ℕ) → i ≤ 8 → 10 ^ i ≤ 100000000
 small i h = pow-le-pow_right {n = 10} (lit< tt) h
 
-pub overflow-mul-value : goal.overflow-mul-value
-overflow-mul-value c = omega (arith, small c.loop-b.b-index (omega arith))
+pub overflow_mul-value : goal.overflow_mul-value
+overflow_mul-value c = omega (arith, small c.loop-b.b-index (omega arith))
 
-pub overflow-add-value : goal.overflow-add-value
-overflow-add-value c = omega (arith, small c.loop-b.b-index (omega arith), c.in-Some.ensures)
+pub overflow_add-value : goal.overflow_add-value
+overflow_add-value c = omega (arith, small c.loop-b.b-index (omega arith), c.in-Some.ensures)
 
-pub returns-in-default : goal.returns-in-default
-returns-in-default c =
-    let stop = none c.loop-b.value c.loop-b.b-index c.args.bytes.now c.loop-b-test.true c.in-default.ensures in
+pub returns-in_default : goal.returns-in_default
+returns-in_default c =
+    let stop = none c.loop-b.value c.loop-b.b-index c.args.bytes.now c.loop-b-test.true c.in_default.ensures in
     cc
 
 pub loop-b-preserved : goal.loop-b-preserved

@@ -20,14 +20,14 @@ stays (b ∷ bs) h = ap (λ (t : Bool). cond t (unspaced bs) (b ∷ bs)) (ne_eqb
 pub loop-rest-preserved : goal.loop-rest-preserved
 loop-rest-preserved c = (passed c.loop-rest.rest.now (omega (arith, ltb-false)) (omega arith) ∙ c.loop-rest.invariant.0, simp (length-take, length-drop) (omega arith))
 
-pub returns-in-default : goal.returns-in-default
-returns-in-default c = record {
+pub returns-in_default : goal.returns-in_default
+returns-in_default c = record {
   value = sym (empty c.loop-rest.rest.now (omega (arith, ltb-true))) ∙ c.loop-rest.invariant.0;
   bound = omega arith;
 }
 
-pub returns-in-default·2 : goal.returns-in-default·2
-returns-in-default·2 c = record {
+pub returns-in_default-2 : goal.returns-in_default-2
+returns-in_default-2 c = record {
   value = sym (stays c.loop-rest.rest.now (λ e. omega arith)) ∙ c.loop-rest.invariant.0;
   bound = omega arith;
 }

@@ -10,7 +10,7 @@ more ts i sum w d h e f = let s = sum_by_more (λ (t : Target). t.height * t.hei
 
 pub loop-target-preserved : goal.loop-target-preserved
 loop-target-preserved c = (
-  more c.args.targets.now c.loop-target.target-index c.loop-target.sum c.from-sum.result _ c.loop-target-test.true c.loop-target.invariant.0 (c.from-sum.ensures ∙ c.tower-work.ensures),
+  more c.args.targets.now c.loop-target.target-index c.loop-target.sum c.from-sum.result _ c.loop-target-test.true c.loop-target.invariant.0 (c.from-sum.ensures ∙ c.tower_work.ensures),
   omega arith,
 )
 

@@ -13,12 +13,12 @@ use Rattle.sheet.proofs.Reasoned.{reading_settles}
 use Rattle.sheet.proofs.Whole.{acts_more, line_refused, lines_refused, shape_refused, targets_more}
 use Rattle.sheet.proofs.read.read_sheet.Goals as goal
 
-pub returns-in-default : goal.returns-in-default
-returns-in-default g c =
+pub returns-in_default : goal.returns-in_default
+returns-in_default g c =
     let m = g.G.Ground.meaning c.args.ground.now in
     let s = settings_of c.args.settings.now in
     let sheet = c.args.sheet.now in
-    let e : reading_refusal m s sheet ≡ Some (told_of c.plain.result) = shape_refused m s sheet c.in-default.ensures ∙ ap Some (sym c.plain.ensures) in
+    let e : reading_refusal m s sheet ≡ Some (told_of c.plain.result) = shape_refused m s sheet c.in_default.ensures ∙ ap Some (sym c.plain.ensures) in
     record { value = e; words = subst (Settles (reading_reasons m s sheet)) e (reading_settles m s sheet) }
 
 pub loop-i-init : goal.loop-i-init
@@ -67,12 +67,12 @@ loop-i-preserved g c =
     let here =
     line_refused m s sheet i (i + 1) l (eqb (i + 1) c.in-Some.lines) (vec_items c.loop-i.targets) (vec_len c.loop-i.acts)
     refl c.cut.ensures.value (ap (eqb (i + 1)) w.1) inv.0 (c.loop-i.acts.ok.0 ∙ ap length inv.1) in (
-      targets_more m s sheet i (i + 1) l (vec_items c.loop-i.targets) (vec_items c.take-line.new.targets) refl c.cut.ensures.value inv.0 taken.value.1.0,
-      acts_more m s sheet i (i + 1) l (vec_items c.loop-i.acts) (vec_items c.take-line.new.acts) refl c.cut.ensures.value inv.1 taken.value.1.1,
-      omega (arith, taken.targets-room),
-      omega (arith, taken.acts-room),
-      omega (arith, taken.targets-room),
-      omega (arith, taken.acts-room),
+      targets_more m s sheet i (i + 1) l (vec_items c.loop-i.targets) (vec_items c.take_line.new.targets) refl c.cut.ensures.value inv.0 taken.value.1.0,
+      acts_more m s sheet i (i + 1) l (vec_items c.loop-i.acts) (vec_items c.take_line.new.acts) refl c.cut.ensures.value inv.1 taken.value.1.1,
+      omega (arith, taken.targets_room),
+      omega (arith, taken.acts_room),
+      omega (arith, taken.targets_room),
+      omega (arith, taken.acts_room),
       goes_on (tests_at m s sheet) i (lines_in sheet) below (sym here ∙ taken.value.0) ∙ inv.6,
     )
 

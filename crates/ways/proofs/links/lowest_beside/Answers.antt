@@ -5,11 +5,11 @@ use Rattle.ways.specs.View.{heights_by}
 use Rattle.ways.proofs.Along.{along, none_left, all_seen, passes, fails}
 use Rattle.ways.proofs.links.lowest_beside.Goals as goal
 
-pub returns-in-default : goal.returns-in-default
-returns-in-default g c =
+pub returns-in_default : goal.returns-in_default
+returns-in_default g c =
     let m = g.G.Ground.meaning c.args.ground.now in
     let test = fits (heights_by g.C.Tall.tallness c.args.columns.now) (label c.args.steps.now) c.args.n c.args.column in
-    sym (none_left test (neighbours m c.args.column) c.loop-k.k c.in-default.ensures) ∙ c.loop-k.invariant ∙ along m c.args.column test
+    sym (none_left test (neighbours m c.args.column) c.loop-k.k c.in_default.ensures) ∙ c.loop-k.invariant ∙ along m c.args.column test
 
 pub returns-then-fits : goal.returns-then-fits
 returns-then-fits g c =

@@ -8,48 +8,57 @@ use Rattle.ground.proofs.Ordered.{decides_border, decides_order, listing_settles
 use Rattle.ground.proofs.Refuses.{refuse_border, refuse_crowd, refuse_none, refuse_order}
 use Rattle.ground.proofs.listed.Listed.new.Goals as goal
 
-pub returns-then-not-is-border-list : goal.returns-then-not-is-border-list
-returns-then-not-is-border-list c =
+pub returns-then-not-is_border_list : goal.returns-then-not-is_border_list
+returns-then-not-is_border_list c =
     let n = c.args.columns in
     let border = c.args.border.now in
     let ks = c.args.links.now in
-    let e = refuse_border n border ks (sym c.is-border-list.ensures ∙ c.if-not-is-border-list.true) ∙ ap (λ t. Some t) (sym c.plain.ensures) in
+    let e = refuse_border n border ks (sym c.is_border_list.ensures ∙ c.if-not-is_border_list.true) ∙ ap (λ t. Some t) (sym c.plain.ensures) in
     record { value = e; words = subst (Settles (listing_reasons n border ks)) e (listing_settles n border ks) }
 
-pub returns-then-not-is-link-list : goal.returns-then-not-is-link-list
-returns-then-not-is-link-list c =
+pub returns-then-not-is_link_list : goal.returns-then-not-is_link_list
+returns-then-not-is_link_list c =
     let n = c.args.columns in
     let border = c.args.border.now in
     let ks = c.args.links.now in
-    let e = refuse_order n border ks (sym c.is-border-list.ensures ∙ c.if-not-is-border-list.false) (sym c.is-link-list.ensures ∙ c.if-not-is-link-list.true) ∙ ap (λ t. Some t) (sym c.plain-then-not-is-link-list.ensures) in
+    let e = refuse_order n border ks (sym c.is_border_list.ensures ∙ c.if-not-is_border_list.false) (sym c.is_link_list.ensures ∙ c.if-not-is_link_list.true) ∙ ap (λ t. Some t) (sym c.plain-then-not-is_link_list.ensures) in
     record { value = e; words = subst (Settles (listing_reasons n border ks)) e (listing_settles n border ks) }
 
 pub filled-requires : goal.filled-requires
 filled-requires c =
     let n = c.args.columns in
-    let list = (decides_border n c.args.border.now).0 (sym c.is-border-list.ensures ∙ c.if-not-is-border-list.false) in
-    let order = (decides_order n c.args.links.now).0 (sym c.is-link-list.ensures ∙ c.if-not-is-link-list.false) in
+    let list = (decides_border n c.args.border.now).0 (sym c.is_border_list.ensures ∙ c.if-not-is_border_list.false) in
+    let order = (decides_order n c.args.links.now).0 (sym c.is_link_list.ensures ∙ c.if-not-is_link_list.false) in
     (omega (arith, list.long, list.high), λ i lt. let ends = order.inside i lt in (ends.0, omega (arith, ends.1, list.high)))
 
-pub returns-in-default : goal.returns-in-default
-returns-in-default c =
+pub returns-in_default : goal.returns-in_default
+returns-in_default c =
     let n = c.args.columns in
     let border = c.args.border.now in
     let ks = c.args.links.now in
-    let up = sym c.is-link-list.ensures ∙ c.if-not-is-link-list.false in
-    let e = refuse_crowd n border ks (sym c.is-border-list.ensures ∙ c.if-not-is-border-list.false) up (crowded_within n ks up c.in-default.ensures) ∙ ap (λ t. Some t) (sym c.plain-in-default.ensures) in
+    let up = sym c.is_link_list.ensures ∙ c.if-not-is_link_list.false in
+    let e = refuse_crowd n border ks (sym c.is_border_list.ensures ∙ c.if-not-is_border_list.false) up (crowded_within n ks up c.in_default.ensures) ∙ ap (λ t. Some t) (sym c.plain-in_default.ensures) in
     record { value = e; words = subst (Settles (listing_reasons n border ks)) e (listing_settles n border ks) }
 
-pub invariant-of-result : goal.invariant-of-result
-invariant-of-result c =
+pub invariant_of-result : goal.invariant_of-result
+invariant_of-result c =
     let n = c.args.columns in
     let border = c.args.border.now in
     let ks = c.args.links.now in
     let rows = c.in-Some.rows in
-    let list = (decides_border n border).0 (sym c.is-border-list.ensures ∙ c.if-not-is-border-list.false) in
-    let up = sym c.is-link-list.ensures ∙ c.if-not-is-link-list.false in
+    let list = (decides_border n border).0 (sym c.is_border_list.ensures ∙ c.if-not-is_border_list.false) in
+    let up = sym c.is_link_list.ensures ∙ c.if-not-is_link_list.false in
     let full = c.in-Some.ensures in
-    (list.low, (list.high, (λ d lt. full.wide d (omega (arith, list.high)), (full.short, (rows_tell n border ks rows list up full, (rows_within n border ks rows list up full, (rows_back n border ks rows list up full, (rows_apart n border ks rows list up full, tt))))))))
+    record {
+      columns_low = list.low;
+      columns_high = list.high;
+      rows_wide = λ d lt. full.wide d (omega (arith, list.high));
+      rows_short = full.short;
+      rows_tell = rows_tell n border ks rows list up full;
+      within = rows_within n border ks rows list up full;
+      both_ways = rows_back n border ks rows list up full;
+      no_loop = rows_apart n border ks rows list up full;
+    }
 
 pub returns : goal.returns
 returns c =
@@ -57,9 +66,9 @@ returns c =
     let border = c.args.border.now in
     let ks = c.args.links.now in
     let rows = c.in-Some.rows in
-    let fits = sym c.is-border-list.ensures ∙ c.if-not-is-border-list.false in
+    let fits = sym c.is_border_list.ensures ∙ c.if-not-is_border_list.false in
     let list = (decides_border n border).0 fits in
-    let up = sym c.is-link-list.ensures ∙ c.if-not-is-link-list.false in
+    let up = sym c.is_link_list.ensures ∙ c.if-not-is_link_list.false in
     let full = c.in-Some.ensures in
     let e = refuse_none n border ks fits up (not_crowded n border ks rows list.high full) in
     record { value = (e, means_lists n border ks rows list up full); words = subst (Settles (listing_reasons n border ks)) e (listing_settles n border ks) }
