@@ -11,8 +11,8 @@ pub loop-column-preserved : goal.loop-column-preserved
 loop-column-preserved c =
     let ms = c.loop-column.marks in
     let e = c.loop-column.column in (
-      omega (arith, length-set ms e c.mark-of.result),
-      one_renewed c.args.columns.now c.args.marks.now ms e c.mark-of.result c.loop-column.invariant.1 (omega arith) c.mark-of.ensures,
+      omega (arith, length-set ms e c.mark_of.result),
+      one_renewed c.args.columns.now c.args.marks.now ms e c.mark_of.result c.loop-column.invariant.1 (omega arith) c.mark_of.ensures,
     )
 
 pub returns : goal.returns

@@ -8,14 +8,14 @@ pub loop-column-init : goal.loop-column-init
 loop-column-init c =
     (nil_from_length (vec_items c.args.columns) (sym c.args.columns.ok.0 ∙ c.requires.none), c.requires.none, c.requires.room)
 
-pub push-reserved-requires : goal.push-reserved-requires
-push-reserved-requires c = omega (arith, c.requires.few)
+pub push_reserved-requires : goal.push_reserved-requires
+push_reserved-requires c = omega (arith, c.requires.few)
 
 pub loop-column-preserved : goal.loop-column-preserved
 loop-column-preserved c = (
-  c.push-reserved.ensures.items ∙ ap (λ (xs : List Column). xs ++ (fresh ∷ [])) c.loop-column.invariant.0 ∙ replicate_more c.loop-column.column fresh,
-  omega (arith, c.push-reserved.ensures.len, c.loop-column.invariant.1),
-  omega (arith, c.push-reserved.ensures.capacity, c.loop-column.invariant.2),
+  c.push_reserved.ensures.items ∙ ap (λ (xs : List Column). xs ++ (fresh ∷ [])) c.loop-column.invariant.0 ∙ replicate_more c.loop-column.column fresh,
+  omega (arith, c.push_reserved.ensures.len, c.loop-column.invariant.1),
+  omega (arith, c.push_reserved.ensures.capacity, c.loop-column.invariant.2),
 )
 
 pub returns : goal.returns

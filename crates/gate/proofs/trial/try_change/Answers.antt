@@ -5,16 +5,16 @@ use Rattle.gate.specs.Gate.{lowest_stranded}
 use Rattle.gate.proofs.Lies.{lies_tried, is_none}
 use Rattle.gate.proofs.trial.try_change.Goals as goal
 
-pub returns-then-is-some : goal.returns-then-is-some
-returns-then-is-some g c =
+pub returns-then-is_some : goal.returns-then-is_some
+returns-then-is_some g c =
     let m = g.G.Ground.meaning c.args.ground.now in
     let xs = c.args.columns.now in
     let ms = c.args.marks.now in
     let at = c.args.column in
-    let r = c.lowest-stranded-stranded.result in
+    let r = c.lowest_stranded-stranded.result in
     record {
-      answer = c.lowest-stranded-stranded.ensures ∙ ap (lowest_stranded m xs) (lies_tried xs ms at c.requires);
-      marks = c.drop-trial.ensures ∙ set-set ms at 1 (get_or ms at 0) ∙ set-get_or ms at 0 ∙ sym (cond-true (is_some r) ms (set ms at 1) (sym c.if-is-some.ensures));
+      answer = c.lowest_stranded-stranded.ensures ∙ ap (lowest_stranded m xs) (lies_tried xs ms at c.requires);
+      marks = c.drop-trial.ensures ∙ set-set ms at 1 (get_or ms at 0) ∙ set-get_or ms at 0 ∙ sym (cond-true (is_some r) ms (set ms at 1) (sym c.if-is_some.ensures));
     }
 
 pub returns : goal.returns
@@ -23,7 +23,7 @@ returns g c =
     let xs = c.args.columns.now in
     let ms = c.args.marks.now in
     record {
-      answer = sym (is_none c.lowest-stranded-stranded.result (sym c.if-is-some.ensures)) ∙ c.lowest-stranded-stranded.ensures
+      answer = sym (is_none c.lowest_stranded-stranded.result (sym c.if-is_some.ensures)) ∙ c.lowest_stranded-stranded.ensures
           ∙ ap (lowest_stranded m xs) (lies_tried xs ms c.args.column c.requires);
       marks = c.keep.ensures;
     }

@@ -12,11 +12,11 @@ use Rattle.job.proofs.opened.judge_job.Goals as goal
 pub returns-in-Ok-judge : goal.returns-in-Ok-judge
 returns-in-Ok-judge c =
     let input = c.args.input.now in
-    let job = c.in-Ok-open-job.job in
+    let job = c.in-Ok-open_job.job in
     let m = square_of job.ground in
     let s = settings_of job.settings in
     let read = c.in-Ok.ensures in
-    let made = c.in-Ok-open-job.ensures in
+    let made = c.in-Ok-open_job.ensures in
     let judged = c.in-Ok-judge.ensures in
     let el = take_rest input 35 in
     let same = sheet_decides input c.in-Ok.order m s _ read.0 read.1.0 made.0 made.1.0 made.1.1 el in (
@@ -32,8 +32,8 @@ returns-in-Ok-judge c =
 pub returns-in-Err-judge : goal.returns-in-Err-judge
 returns-in-Err-judge c =
     let input = c.args.input.now in
-    let job = c.in-Ok-open-job.job in
+    let job = c.in-Ok-open_job.job in
     let read = c.in-Ok.ensures in
-    let made = c.in-Ok-open-job.ensures in
+    let made = c.in-Ok-open_job.ensures in
     sheet_decides input c.in-Ok.order (square_of job.ground) (settings_of job.settings) _ read.0 read.1.0 made.0 made.1.0 made.1.1 (take_rest input 35)
     ∙ c.in-Err-judge.ensures.value

@@ -36,8 +36,8 @@ back : (o : Option Told) → refused_by (by_refusal o) ≡ o
 back None = refl
 back (Some t) = refl
 
-pub read-heights-requires : goal.read-heights-requires
-read-heights-requires c =
+pub read_heights-requires : goal.read_heights-requires
+read_heights-requires c =
     let ground = c.args.judged.job.ground in
     record { none = c.requires.none; room = omega (arith, mul-le-mul ground.x_high ground.y_high, c.columns-columns.ensures) }
 
@@ -53,12 +53,12 @@ returns c =
     let ground = c.args.judged.job.ground in
     record {
       comes = λ targets rules. c.perform-site.ensures.plays [] (Deed.plays plan ∷ []) (sym one) (fresh m s) plan targets rules;
-      few = omega (arith, mul-le-mul ground.x_high ground.y_high, c.columns-columns.ensures, c.read-heights.ensures.few);
+      few = omega (arith, mul-le-mul ground.x_high ground.y_high, c.columns-columns.ensures, c.read_heights.ensures.few);
       answer =
-          c.stopped.ensures ∙ ap (λ (l : List Answer). first_refusal (map reply_of l)) c.as-slice.ensures.value
+          c.stopped.ensures ∙ ap (λ (l : List Answer). first_refusal (map reply_of l)) c.as_slice.ensures.value
           ∙ ap first_refusal (c.perform-site.ensures.answered ∙ ap (replies_to site) one) ∙ back _;
       heights =
-          c.read-heights.ensures.read
+          c.read_heights.ensures.read
           ∙ ap (λ (k : ℕ). map (height_at (vec_items c.perform-site.result.site.columns)) (range_with_len 0 k)) c.columns-columns.ensures
           ∙ ap (heights n) (c.perform-site.ensures.is_run ∙ ap (runs site) one);
     }

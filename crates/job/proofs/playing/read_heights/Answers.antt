@@ -15,10 +15,10 @@ loop-column-init g c = (nil_from_length (vec_items c.args.heights.now) (sym c.ar
 
 pub loop-column-preserved : goal.loop-column-preserved
 loop-column-preserved g c = (
-  more (height_at (vec_items c.args.site.now.columns)) (vec_items c.loop-column.heights) (vec_items c.push-reserved.new.self) c.loop-column.column c.look.result.height
-      c.loop-column.invariant.0 c.push-reserved.ensures.items (ap (λ (x : Column). x.height) c.look.ensures),
+  more (height_at (vec_items c.args.site.now.columns)) (vec_items c.loop-column.heights) (vec_items c.push_reserved.new.self) c.loop-column.column c.look.result.height
+      c.loop-column.invariant.0 c.push_reserved.ensures.items (ap (λ (x : Column). x.height) c.look.ensures),
   omega arith,
-  c.push-reserved.ensures.capacity ∙ c.loop-column.invariant.2,
+  c.push_reserved.ensures.capacity ∙ c.loop-column.invariant.2,
 )
 
 pub returns : goal.returns

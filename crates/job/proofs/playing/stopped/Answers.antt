@@ -16,4 +16,4 @@ pub returns-then-answers-eq0 : goal.returns-then-answers-eq0
 returns-then-answers-eq0 c = nobody c.args.answers.now c.if-answers-eq0.true
 
 pub returns : goal.returns
-returns c = c.refusal-in.ensures ∙ front c.args.answers.now _ c.if-answers-eq0.false
+returns c = c.refusal_in.ensures ∙ front c.args.answers.now _ c.if-answers-eq0.false

@@ -72,15 +72,15 @@ returns-in-Err c =
     let text = c.args.desk.text in
     let t = told_of c.in-Err.refusal in
     let refused = c.in-Err.ensures in
-    let all = alone (vec_items text) (vec_items c.put-refusal.new.text) (told_row (codes "BAD ") t) (sym text.ok.0 ∙ c.args.desk.no_text) c.put-refusal.ensures in
+    let all = alone (vec_items text) (vec_items c.put_refusal.new.text) (told_row (codes "BAD ") t) (sym text.ok.0 ∙ c.args.desk.no_text) c.put_refusal.ensures in
     record {
       value = all ∙ sym (ap (λ (o : Option Told). reply o (played_reply (ground_of (order input)).columns (plan_in input) (outcome input).answer (outcome input).site)) refused);
       words = subst (Verdict input) (sym all) (Verdict.refused t (subst (Settles (job_reasons input)) refused (job_settles input)));
     }
 
-pub put-drawing-requires : goal.put-drawing-requires
-put-drawing-requires c =
-    let few = c.in-default.ensures.few in
+pub put_drawing-requires : goal.put_drawing-requires
+put_drawing-requires c =
+    let few = c.in_default.ensures.few in
     (omega (arith, c.deref.ensures.len), omega (arith, c.args.desk.no_text, c.args.desk.text_fits))
 
 pub returns-in-Some : goal.returns-in-Some
@@ -90,7 +90,7 @@ returns-in-Some c =
     let j = c.in-Ok.judged in
     let judged = c.in-Ok.ensures in
     let t = told_of c.in-Some.refusal in
-    let all = alone (vec_items text) (vec_items c.put-refusal-in-Some.new.text) (told_row (codes "HELD") t) (sym text.ok.0 ∙ c.args.desk.no_text) c.put-refusal-in-Some.ensures in
+    let all = alone (vec_items text) (vec_items c.put_refusal-in-Some.new.text) (told_row (codes "HELD") t) (sym text.ok.0 ∙ c.args.desk.no_text) c.put_refusal-in-Some.ensures in
     let stops : (outcome input).answer ≡ Some t = ap (λ (o : Outcome). o.answer) (sym (played input j judged.1)) ∙ sym c.in-Some.ensures.answer in
     record {
       value = all ∙ sym (goes_on input j judged.1 judged.0 (Some t) stops);
@@ -105,18 +105,18 @@ returns c =
     let judged = c.in-Ok.ensures in
     let a = acceptance_of j.plan in
     let n = (ground_of (order input)).columns in
-    let rest = c.in-default.ensures in
+    let rest = c.in_default.ensures in
     let is = played input j judged.1 in
     let stays : (outcome input).answer ≡ None = ap (λ (o : Outcome). o.answer) (sym is) ∙ sym rest.answer in
-    let first : vec_items c.put-row.new.text ≡ row (codes "OK  ") a.makespan a.costs a.most =
-    alone (vec_items text) (vec_items c.put-row.new.text) _ (sym text.ok.0 ∙ c.args.desk.no_text) c.put-row.ensures.items
+    let first : vec_items c.put_row.new.text ≡ row (codes "OK  ") a.makespan a.costs a.most =
+    alone (vec_items text) (vec_items c.put_row.new.text) _ (sym text.ok.0 ∙ c.args.desk.no_text) c.put_row.ensures.items
     ∙ ap (λ (x : ℕ). row (codes "OK  ") x c.costs-costs.result c.most-most.result) (c.from-makespan.ensures ∙ c.makespan.ensures)
     ∙ ap (λ (x : ℕ). row (codes "OK  ") a.makespan x c.most-most.result) c.costs-costs.ensures
     ∙ ap (λ (x : ℕ). row (codes "OK  ") a.makespan a.costs x) c.most-most.ensures in
-    let drawn : vec_items c.play-job.new.heights ≡ heights n (outcome input).site =
+    let drawn : vec_items c.play_job.new.heights ≡ heights n (outcome input).site =
     rest.heights ∙ ap (λ (m : Meaning). heights m.columns (play_on a.plan (site_of j.job)).site) judged.1.ground ∙ ap (λ (o : Outcome). heights n o.site) is in
-    let all : vec_items c.put-drawing.new.text ≡ row (codes "OK  ") a.makespan a.costs a.most ++ drawing (heights n (outcome input).site) =
-    c.put-drawing.ensures ∙ ap (λ (l : List ℕ). l ++ drawing c.deref.result.now) first
+    let all : vec_items c.put_drawing.new.text ≡ row (codes "OK  ") a.makespan a.costs a.most ++ drawing (heights n (outcome input).site) =
+    c.put_drawing.ensures ∙ ap (λ (l : List ℕ). l ++ drawing c.deref.result.now) first
     ∙ ap (λ (l : List ℕ). row (codes "OK  ") a.makespan a.costs a.most ++ drawing l) (c.deref.ensures.value ∙ drawn) in
     let f = figures input j judged.1 in
     record {

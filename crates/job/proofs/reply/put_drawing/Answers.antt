@@ -19,7 +19,7 @@ pub returns-in-Ok : goal.returns-in-Ok
 returns-in-Ok c =
     front (vec_items c.args.text.now) (vec_items c.put.new.text) c.draw.new.out _ (text c.args.heights.now) c.in-Ok.size c.put.ensures.items c.in-Ok.ensures.after c.in-Ok.ensures.value.1
 
-pub returns-in-default : goal.returns-in-default
-returns-in-default c =
+pub returns-in_default : goal.returns-in_default
+returns-in_default c =
     let size = length_text c.args.heights.now in
-    absurd (never _ _ _ (le-ltb 784 (length (text c.args.heights.now)) (omega arith)) c.in-default.ensures.value)
+    absurd (never _ _ _ (le-ltb 784 (length (text c.args.heights.now)) (omega arith)) c.in_default.ensures.value)

@@ -8,9 +8,9 @@ more old new was bs i h e f =
 
 pub loop-b-preserved : goal.loop-b-preserved
 loop-b-preserved c = (
-  more (vec_items c.args.text.now) (vec_items c.push-reserved.new.self) (vec_items c.loop-b.text) c.args.bytes.now c.loop-b.b-index c.loop-b-test.true c.loop-b.invariant.0
-      c.push-reserved.ensures.items,
-  c.push-reserved.ensures.capacity ∙ c.loop-b.invariant.1,
+  more (vec_items c.args.text.now) (vec_items c.push_reserved.new.self) (vec_items c.loop-b.text) c.args.bytes.now c.loop-b.b-index c.loop-b-test.true c.loop-b.invariant.0
+      c.push_reserved.ensures.items,
+  c.push_reserved.ensures.capacity ∙ c.loop-b.invariant.1,
   omega arith,
 )
 

@@ -9,5 +9,5 @@ same n a b c d e p q r s t = cc
 
 pub returns : goal.returns
 returns c =
-    let all = same c.args.n _ _ _ _ _ c.digit-at.ensures c.digit-at-2.ensures c.digit-at-3.ensures c.digit-at-4.ensures c.digit-at-5.ensures in
+    let all = same c.args.n _ _ _ _ _ c.digit_at.ensures c.digit_at-2.ensures c.digit_at-3.ensures c.digit_at-4.ensures c.digit_at-5.ensures in
     record { value = all; words = λ h. all ∙ cells_wide c.args.n h }

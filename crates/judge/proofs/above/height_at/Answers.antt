@@ -30,6 +30,6 @@ pub returns : goal.returns
 returns c =
     let xs = c.args.actions.now in
     let i = c.loop-action.action-index in
-    c.saturating-sub.ensures ∙ ap₂ ◌-◌
+    c.saturating_sub.ensures ∙ ap₂ ◌-◌
     (c.loop-action.invariant.0 ∙ whole action_of (count_by (delivers c.args.time c.args.column)) xs i c.loop-action-test.false)
     (c.loop-action.invariant.1 ∙ whole action_of (count_by (picks c.args.time c.args.column)) xs i c.loop-action-test.false)

@@ -11,11 +11,11 @@ loop-action-preserved c =
     let xs = c.args.actions.now in
     let i = c.loop-action.action-index in
     let at = line_of xs i c.action-item.result c.loop-action-test.true c.action-item.is in
-    most_more (plan_of xs) i c.loop-action.most c.running-at-running.result c.if-running-most.most c.start.result c.running-at-running.ensures
+    most_more (plan_of xs) i c.loop-action.most c.running_at-running.result c.if-running-most.most c.start.result c.running_at-running.ensures
     (c.start.ensures ∙ sym (ap (λ (a : Action). a.start) at))
     (elim c.if-running-most.branch [
-      | then-running-most w ↦ inl (omega (arith, w.if-running-most.true), w.most_is)
-      | else-running-most w ↦ inr (omega (arith, w.if-running-most.false), w.most_is)
+      | then-running-most w ↦ inl (omega (arith, w.if-running-most.true), w.most-is)
+      | else-running-most w ↦ inr (omega (arith, w.if-running-most.false), w.most-is)
     ])
     c.loop-action.invariant
 

@@ -31,24 +31,24 @@ returns-in-Err g c =
     let e = at_reading m s sheet (told_of c.in-Err.refusal) c.in-Err.ensures.value in
     record { value = e; words = in_words m s sheet P (Err c.in-Err.refusal) e; rules = decides_keeps m s sheet (timed c.args.settings.now) P (Err c.in-Err.refusal) e }
 
-pub judge-lines-requires : goal.judge-lines-requires
-judge-lines-requires g c =
-    record { none = c.args.room.no_actions; room = c.args.room.actions_fit; few = omega (arith, c.as-slice.ensures.len, c.in-Ok.read.few_acts) }
+pub judge_lines-requires : goal.judge_lines-requires
+judge_lines-requires g c =
+    record { none = c.args.room.no_actions; room = c.args.room.actions_fit; few = omega (arith, c.as_slice.ensures.len, c.in-Ok.read.few_acts) }
 
-pub returns-in-Err-judge-lines : goal.returns-in-Err-judge-lines
-returns-in-Err-judge-lines g c =
+pub returns-in-Err-judge_lines : goal.returns-in-Err-judge_lines
+returns-in-Err-judge_lines g c =
     let m = g.G.Ground.meaning c.args.ground.now in
     let s = settings_of c.args.settings.now in
     let sheet = c.args.sheet.now in
     let P = λ (a : Accepted). Accepts (records_in sheet) (acceptance_of a) in
     let read = c.in-Ok.ensures.value in
-    let r : Records = record { targets = vec_items c.in-Ok.read.targets; acts = c.as-slice.result.now; lines = c.in-Ok.read.lines } in
-    let is : r ≡ records_in sheet = ap (λ (xs : List ActLine). record { targets = vec_items c.in-Ok.read.targets; acts = xs; lines = c.in-Ok.read.lines }) c.as-slice.ensures.value ∙ read.1 in
-    let e = at_lines m s sheet r read.0 is (told_of c.in-Err-judge-lines.refusal) c.in-Err-judge-lines.ensures in
+    let r : Records = record { targets = vec_items c.in-Ok.read.targets; acts = c.as_slice.result.now; lines = c.in-Ok.read.lines } in
+    let is : r ≡ records_in sheet = ap (λ (xs : List ActLine). record { targets = vec_items c.in-Ok.read.targets; acts = xs; lines = c.in-Ok.read.lines }) c.as_slice.ensures.value ∙ read.1 in
+    let e = at_lines m s sheet r read.0 is (told_of c.in-Err-judge_lines.refusal) c.in-Err-judge_lines.ensures in
     record {
       value = e;
-      words = in_words m s sheet P (Err c.in-Err-judge-lines.refusal) e;
-      rules = decides_keeps m s sheet (timed c.args.settings.now) P (Err c.in-Err-judge-lines.refusal) e;
+      words = in_words m s sheet P (Err c.in-Err-judge_lines.refusal) e;
+      rules = decides_keeps m s sheet (timed c.args.settings.now) P (Err c.in-Err-judge_lines.refusal) e;
     }
 
 pub returns-in-Some : goal.returns-in-Some
@@ -58,12 +58,12 @@ returns-in-Some g c =
     let sheet = c.args.sheet.now in
     let P = λ (a : Accepted). Accepts (records_in sheet) (acceptance_of a) in
     let read = c.in-Ok.ensures.value in
-    let lines = c.in-Ok-judge-lines.ensures in
-    let r : Records = record { targets = vec_items c.in-Ok.read.targets; acts = c.as-slice.result.now; lines = c.in-Ok.read.lines } in
+    let lines = c.in-Ok-judge_lines.ensures in
+    let r : Records = record { targets = vec_items c.in-Ok.read.targets; acts = c.as_slice.result.now; lines = c.in-Ok.read.lines } in
     let is : r ≡ records_in sheet =
-    ap (λ (xs : List ActLine). record { targets = vec_items c.in-Ok.read.targets; acts = xs; lines = c.in-Ok.read.lines }) c.as-slice.ensures.value ∙ read.1 in
+    ap (λ (xs : List ActLine). record { targets = vec_items c.in-Ok.read.targets; acts = xs; lines = c.in-Ok.read.lines }) c.as_slice.ensures.value ∙ read.1 in
     let end = at_end m s sheet r read.0 is lines.0
-    ∙ sym (ended m c.in-Ok.read.lines (ap plan_of c.as-slice-2.ensures.value ∙ lines.1.0) c.as-slice-3.ensures.value) ∙ sym c.judge-end.ensures in
+    ∙ sym (ended m c.in-Ok.read.lines (ap plan_of c.as_slice-2.ensures.value ∙ lines.1.0) c.as_slice-3.ensures.value) ∙ sym c.judge_end.ensures in
     let e = end ∙ ap (option_map told_of) c.in-Some.is in
     record {
       value = e;
@@ -72,7 +72,7 @@ returns-in-Some g c =
     }
 
 pub accept-requires : goal.accept-requires
-accept-requires g c = record { few = c.in-Ok-judge-lines.ensures.1.1 }
+accept-requires g c = record { few = c.in-Ok-judge_lines.ensures.1.1 }
 
 pub returns-in-None : goal.returns-in-None
 returns-in-None g c =
@@ -81,12 +81,12 @@ returns-in-None g c =
     let sheet = c.args.sheet.now in
     let P = λ (a : Accepted). Accepts (records_in sheet) (acceptance_of a) in
     let read = c.in-Ok.ensures.value in
-    let lines = c.in-Ok-judge-lines.ensures in
-    let r : Records = record { targets = vec_items c.in-Ok.read.targets; acts = c.as-slice.result.now; lines = c.in-Ok.read.lines } in
+    let lines = c.in-Ok-judge_lines.ensures in
+    let r : Records = record { targets = vec_items c.in-Ok.read.targets; acts = c.as_slice.result.now; lines = c.in-Ok.read.lines } in
     let is : r ≡ records_in sheet =
-    ap (λ (xs : List ActLine). record { targets = vec_items c.in-Ok.read.targets; acts = xs; lines = c.in-Ok.read.lines }) c.as-slice.ensures.value ∙ read.1 in
+    ap (λ (xs : List ActLine). record { targets = vec_items c.in-Ok.read.targets; acts = xs; lines = c.in-Ok.read.lines }) c.as_slice.ensures.value ∙ read.1 in
     let end = at_end m s sheet r read.0 is lines.0
-    ∙ sym (ended m c.in-Ok.read.lines (ap plan_of c.as-slice-2.ensures.value ∙ lines.1.0) c.as-slice-3.ensures.value) ∙ sym c.judge-end.ensures in
+    ∙ sym (ended m c.in-Ok.read.lines (ap plan_of c.as_slice-2.ensures.value ∙ lines.1.0) c.as_slice-3.ensures.value) ∙ sym c.judge_end.ensures in
     let none = end ∙ ap (option_map told_of) c.in-None.is in
     let accepts : Accepts (records_in sheet) (acceptance_of c.accept.result) = record {
       plan = c.accept.ensures.plan.0 ∙ lines.1.0 ∙ ap (λ (x : Records). written_plan x.acts) is;

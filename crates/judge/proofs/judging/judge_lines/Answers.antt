@@ -24,8 +24,8 @@ loop-line-init g c =
       ap (λ (k : ℕ). first_of (from_on (tests_at m (settings_of c.args.settings.now) c.args.acts.now) 0 k)) (sub-zero (length c.args.acts.now)),
     )
 
-pub push-reserved-requires : goal.push-reserved-requires
-push-reserved-requires g c = let inv = c.loop-line.invariant in omega (arith, c.requires.few)
+pub push_reserved-requires : goal.push_reserved-requires
+push_reserved-requires g c = let inv = c.loop-line.invariant in omega (arith, c.requires.few)
 
 pub returns-in-Err : goal.returns-in-Err
 returns-in-Err g c =
@@ -34,8 +34,8 @@ returns-in-Err g c =
     let acts = c.args.acts.now in
     let i = c.loop-line.line-index in
     let inv = c.loop-line.invariant in
-    let same = ap plan_of c.as-slice.ensures.value in
-    let above = plan_of c.as-slice.result.now in
+    let same = ap plan_of c.as_slice.ensures.value in
+    let above = plan_of c.as_slice.result.now in
     let here = line_refused m s acts i above (same ∙ inv.0) in
     sym inv.4 ∙ stops_at (tests_at m s acts) i (length acts) (told_of c.in-Err.refusal) c.loop-line-test.true
     (sym here ∙ c.in-Err.ensures (subst (Settled m) (sym same) inv.3))
@@ -47,17 +47,17 @@ loop-line-preserved g c =
     let acts = c.args.acts.now in
     let i = c.loop-line.line-index in
     let inv = c.loop-line.invariant in
-    let same = ap plan_of c.as-slice.ensures.value in
-    let above = plan_of c.as-slice.result.now in
+    let same = ap plan_of c.as_slice.ensures.value in
+    let above = plan_of c.as_slice.result.now in
     let so_far = same ∙ inv.0 in
     let a = action_of c.in-Ok.action in
     let told = c.in-Ok.ensures (subst (Settled m) (sym same) inv.3) in
     let none = sym (line_refused m s acts i above so_far) ∙ told.0 in
-    let more : plan_of (vec_items c.push-reserved.new.self) ≡ above ++ (a ∷ []) =
-    ap plan_of c.push-reserved.ensures.items ∙ map_push action_of (vec_items c.loop-line.actions) c.in-Ok.action ∙ ap (λ (xs : List Action). xs ++ (a ∷ [])) (sym same) in (
+    let more : plan_of (vec_items c.push_reserved.new.self) ≡ above ++ (a ∷ []) =
+    ap plan_of c.push_reserved.ensures.items ∙ map_push action_of (vec_items c.loop-line.actions) c.in-Ok.action ∙ ap (λ (xs : List Action). xs ++ (a ∷ [])) (sym same) in (
       more ∙ plan_more m s acts i above so_far a c.loop-line-test.true told.1,
-      c.push-reserved.ensures.len ∙ ap (λ (n : ℕ). n + 1) inv.1,
-      omega (arith, c.push-reserved.ensures.capacity, inv.2),
+      c.push_reserved.ensures.len ∙ ap (λ (n : ℕ). n + 1) inv.1,
+      omega (arith, c.push_reserved.ensures.capacity, inv.2),
       subst (Settled m) (sym more) (settled_on m s acts i above so_far a (timed c.args.settings.now) told.1 none (subst (Settled m) (sym same) inv.3)),
       goes_on (tests_at m s acts) i (length acts) c.loop-line-test.true none ∙ inv.4,
     )

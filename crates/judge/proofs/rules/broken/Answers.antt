@@ -9,12 +9,12 @@ use Rattle.judge.proofs.Left.{left_found}
 use Rattle.judge.proofs.Tested.{all_met, at_collision, at_crowd, at_heights, at_left, at_nowhere, at_start, collision_found}
 use Rattle.judge.proofs.rules.broken.Goals as goal
 
-pub returns-then-is-falling : goal.returns-then-is-falling
-returns-then-is-falling c m so =
+pub returns-then-is_falling : goal.returns-then-is_falling
+returns-then-is_falling c m so =
     let a = action_of c.args.action.now in
     let above = plan_of c.args.above.now in
     let s = settings_of c.args.settings.now in
-    ap Some c.at.ensures ∙ sym (at_start m s above a (sym c.is-falling.ensures ∙ c.if-is-falling.true))
+    ap Some c.at.ensures ∙ sym (at_start m s above a (sym c.is_falling.ensures ∙ c.if-is_falling.true))
 
 pub returns-in-Some : goal.returns-in-Some
 returns-in-Some c m so =
@@ -23,53 +23,53 @@ returns-in-Some c m so =
     let s = settings_of c.args.settings.now in
     let l = left_found m above a.start so a.line c.latest_start.result c.start.result c.left_standing.result c.latest_start.ensures c.start.ensures c.left_standing.ensures in
     ap Some c.at-in-Some.ensures
-    ∙ sym (at_left m s above a (sym c.is-falling.ensures ∙ c.if-is-falling.false) (told LeftStanding a.line c.in-Some.column)
+    ∙ sym (at_left m s above a (sym c.is_falling.ensures ∙ c.if-is_falling.false) (told LeftStanding a.line c.in-Some.column)
     (l ∙ ap (option_map (told LeftStanding a.line)) c.in-Some.is))
 
-pub returns-then-not-is-level : goal.returns-then-not-is-level
-returns-then-not-is-level c m so =
+pub returns-then-not-is_level : goal.returns-then-not-is_level
+returns-then-not-is_level c m so =
     let a = action_of c.args.action.now in
     let above = plan_of c.args.above.now in
     let s = settings_of c.args.settings.now in
     let l = left_found m above a.start so a.line c.latest_start.result c.start.result c.left_standing.result c.latest_start.ensures c.start.ensures c.left_standing.ensures in
-    ap Some c.at-then-not-is-level.ensures
-    ∙ sym (at_heights m s above a (sym c.is-falling.ensures ∙ c.if-is-falling.false) (l ∙ ap (option_map (told LeftStanding a.line)) c.in-default.is)
-    (sym c.is-level.ensures ∙ c.if-not-is-level.true))
+    ap Some c.at-then-not-is_level.ensures
+    ∙ sym (at_heights m s above a (sym c.is_falling.ensures ∙ c.if-is_falling.false) (l ∙ ap (option_map (told LeftStanding a.line)) c.in_default.is)
+    (sym c.is_level.ensures ∙ c.if-not-is_level.true))
 
-pub returns-in-Some-first-collision : goal.returns-in-Some-first-collision
-returns-in-Some-first-collision c m so =
+pub returns-in-Some-first_collision : goal.returns-in-Some-first_collision
+returns-in-Some-first_collision c m so =
     let a = action_of c.args.action.now in
     let above = plan_of c.args.above.now in
     let s = settings_of c.args.settings.now in
     let l = left_found m above a.start so a.line c.latest_start.result c.start.result c.left_standing.result c.latest_start.ensures c.start.ensures c.left_standing.ensures in
-    ap Some c.at-in-Some-first-collision.ensures
-    ∙ sym (at_collision m s above a (sym c.is-falling.ensures ∙ c.if-is-falling.false) (l ∙ ap (option_map (told LeftStanding a.line)) c.in-default.is)
-    (sym c.is-level.ensures ∙ c.if-not-is-level.false) (told SpansCollide a.line c.in-Some-first-collision.line)
-    (collision_found m s above a c.first-collision.result c.first-collision.ensures ∙ ap (option_map (told SpansCollide a.line)) c.in-Some-first-collision.is))
+    ap Some c.at-in-Some-first_collision.ensures
+    ∙ sym (at_collision m s above a (sym c.is_falling.ensures ∙ c.if-is_falling.false) (l ∙ ap (option_map (told LeftStanding a.line)) c.in_default.is)
+    (sym c.is_level.ensures ∙ c.if-not-is_level.false) (told SpansCollide a.line c.in-Some-first_collision.line)
+    (collision_found m s above a c.first_collision.result c.first_collision.ensures ∙ ap (option_map (told SpansCollide a.line)) c.in-Some-first_collision.is))
 
-pub returns-then-not-is-from-somewhere : goal.returns-then-not-is-from-somewhere
-returns-then-not-is-from-somewhere c m so =
+pub returns-then-not-is_from_somewhere : goal.returns-then-not-is_from_somewhere
+returns-then-not-is_from_somewhere c m so =
     let a = action_of c.args.action.now in
     let above = plan_of c.args.above.now in
     let s = settings_of c.args.settings.now in
     let l = left_found m above a.start so a.line c.latest_start.result c.start.result c.left_standing.result c.latest_start.ensures c.start.ensures c.left_standing.ensures in
-    ap Some c.at-then-not-is-from-somewhere.ensures
-    ∙ sym (at_nowhere m s above a (sym c.is-falling.ensures ∙ c.if-is-falling.false) (l ∙ ap (option_map (told LeftStanding a.line)) c.in-default.is)
-    (sym c.is-level.ensures ∙ c.if-not-is-level.false)
-    (collision_found m s above a c.first-collision.result c.first-collision.ensures ∙ ap (option_map (told SpansCollide a.line)) c.in-default-first-collision.is)
-    (sym c.is-from-somewhere.ensures ∙ c.if-not-is-from-somewhere.true))
+    ap Some c.at-then-not-is_from_somewhere.ensures
+    ∙ sym (at_nowhere m s above a (sym c.is_falling.ensures ∙ c.if-is_falling.false) (l ∙ ap (option_map (told LeftStanding a.line)) c.in_default.is)
+    (sym c.is_level.ensures ∙ c.if-not-is_level.false)
+    (collision_found m s above a c.first_collision.result c.first_collision.ensures ∙ ap (option_map (told SpansCollide a.line)) c.in_default-first_collision.is)
+    (sym c.is_from_somewhere.ensures ∙ c.if-not-is_from_somewhere.true))
 
-pub returns-then-is-crowded : goal.returns-then-is-crowded
-returns-then-is-crowded c m so =
+pub returns-then-is_crowded : goal.returns-then-is_crowded
+returns-then-is_crowded c m so =
     let a = action_of c.args.action.now in
     let above = plan_of c.args.above.now in
     let s = settings_of c.args.settings.now in
     let l = left_found m above a.start so a.line c.latest_start.result c.start.result c.left_standing.result c.latest_start.ensures c.start.ensures c.left_standing.ensures in
-    ap Some c.at-then-is-crowded.ensures
-    ∙ sym (at_crowd m s above a (sym c.is-falling.ensures ∙ c.if-is-falling.false) (l ∙ ap (option_map (told LeftStanding a.line)) c.in-default.is)
-    (sym c.is-level.ensures ∙ c.if-not-is-level.false)
-    (collision_found m s above a c.first-collision.result c.first-collision.ensures ∙ ap (option_map (told SpansCollide a.line)) c.in-default-first-collision.is)
-    (sym c.is-from-somewhere.ensures ∙ c.if-not-is-from-somewhere.false) (sym c.is-crowded.ensures ∙ c.if-is-crowded.true))
+    ap Some c.at-then-is_crowded.ensures
+    ∙ sym (at_crowd m s above a (sym c.is_falling.ensures ∙ c.if-is_falling.false) (l ∙ ap (option_map (told LeftStanding a.line)) c.in_default.is)
+    (sym c.is_level.ensures ∙ c.if-not-is_level.false)
+    (collision_found m s above a c.first_collision.result c.first_collision.ensures ∙ ap (option_map (told SpansCollide a.line)) c.in_default-first_collision.is)
+    (sym c.is_from_somewhere.ensures ∙ c.if-not-is_from_somewhere.false) (sym c.is_crowded.ensures ∙ c.if-is_crowded.true))
 
 pub returns : goal.returns
 returns c m so =
@@ -77,7 +77,7 @@ returns c m so =
     let above = plan_of c.args.above.now in
     let s = settings_of c.args.settings.now in
     let l = left_found m above a.start so a.line c.latest_start.result c.start.result c.left_standing.result c.latest_start.ensures c.start.ensures c.left_standing.ensures in
-    sym (all_met m s above a (sym c.is-falling.ensures ∙ c.if-is-falling.false) (l ∙ ap (option_map (told LeftStanding a.line)) c.in-default.is)
-    (sym c.is-level.ensures ∙ c.if-not-is-level.false)
-    (collision_found m s above a c.first-collision.result c.first-collision.ensures ∙ ap (option_map (told SpansCollide a.line)) c.in-default-first-collision.is)
-    (sym c.is-from-somewhere.ensures ∙ c.if-not-is-from-somewhere.false) (sym c.is-crowded.ensures ∙ c.if-is-crowded.false))
+    sym (all_met m s above a (sym c.is_falling.ensures ∙ c.if-is_falling.false) (l ∙ ap (option_map (told LeftStanding a.line)) c.in_default.is)
+    (sym c.is_level.ensures ∙ c.if-not-is_level.false)
+    (collision_found m s above a c.first_collision.result c.first_collision.ensures ∙ ap (option_map (told SpansCollide a.line)) c.in_default-first_collision.is)
+    (sym c.is_from_somewhere.ensures ∙ c.if-not-is_from_somewhere.false) (sym c.is_crowded.ensures ∙ c.if-is_crowded.false))

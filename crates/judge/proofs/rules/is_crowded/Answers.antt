@@ -8,6 +8,6 @@ pub returns : goal.returns
 returns c =
     let a = action_of c.args.action.now in
     let above = plan_of c.args.above.now in
-    c.is-full.ensures ∙ ap (λ (k : ℕ). leb k c.running-at.result) c.robots.ensures
-    ∙ crowded c.args.settings.now.robots c.running-at.result above a c.args.action.now.span.ordered
-    (c.running-at.ensures ∙ ap (λ (t : ℕ). count_by (runs t) above) c.start.ensures)
+    c.is_full.ensures ∙ ap (λ (k : ℕ). leb k c.running_at.result) c.robots.ensures
+    ∙ crowded c.args.settings.now.robots c.running_at.result above a c.args.action.now.span.ordered
+    (c.running_at.ensures ∙ ap (λ (t : ℕ). count_by (runs t) above) c.start.ensures)

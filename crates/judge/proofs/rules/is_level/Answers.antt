@@ -8,7 +8,7 @@ pub returns : goal.returns
 returns c =
     let a = c.args.action.now in
     let above = plan_of c.args.above.now in
-    c.is-fitting.ensures.value
+    c.is_fitting.ensures.value
     ∙ ap₂ (fits a.work a.from.height a.to.height)
-    (c.height-at-from.ensures ∙ ap (λ (t : ℕ). height_at above t a.from.column) c.start.ensures)
-    (c.height-at-to.ensures ∙ ap (λ (t : ℕ). height_at above t a.to.column) c.start-2.ensures)
+    (c.height_at-from.ensures ∙ ap (λ (t : ℕ). height_at above t a.from.column) c.start.ensures)
+    (c.height_at-to.ensures ∙ ap (λ (t : ℕ). height_at above t a.to.column) c.start-2.ensures)

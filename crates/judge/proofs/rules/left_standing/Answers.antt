@@ -5,19 +5,19 @@ use Rattle.plan.specs.View.{plan_of}
 use Rattle.judge.specs.Finding.{Lowest, left_between, lower_of}
 use Rattle.judge.proofs.Lowest.{lower_more, lowest_same}
 use Rattle.judge.proofs.rules.left_standing.Goals as goal
-use Rattle.judge.proofs.rules.left_standing.Goals.{then-is-left, else-is-left}
+use Rattle.judge.proofs.rules.left_standing.Goals.{then-is_left, else-is_left}
 
 pub loop-action-preserved : goal.loop-action-preserved
 loop-action-preserved c =
     let p = left_between (plan_of c.args.above.now) c.args.since c.args.until in
-    elim c.if-is-left.branch [
-      | then-is-left w ↦
-          lower_more p c.args.above.now c.loop-action.action-index c.action-item.result c.loop-action.lowest c.if-is-left.lowest
-          c.loop-action-test.true c.action-item.is (sym w.if-is-left.ensures)
-          (w.lowest_is ∙ ap Some (w.lower.ensures ∙ ap (lower_of c.loop-action.lowest) w.end_column.ensures)) c.loop-action.invariant
-      | else-is-left w ↦
-          lowest_same p c.args.above.now c.loop-action.action-index c.action-item.result c.loop-action.lowest c.if-is-left.lowest
-          c.loop-action-test.true c.action-item.is (sym w.if-is-left.ensures) w.lowest_is c.loop-action.invariant
+    elim c.if-is_left.branch [
+      | then-is_left w ↦
+          lower_more p c.args.above.now c.loop-action.action-index c.action-item.result c.loop-action.lowest c.if-is_left.lowest
+          c.loop-action-test.true c.action-item.is (sym w.if-is_left.ensures)
+          (w.lowest-is ∙ ap Some (w.lower.ensures ∙ ap (lower_of c.loop-action.lowest) w.end_column.ensures)) c.loop-action.invariant
+      | else-is_left w ↦
+          lowest_same p c.args.above.now c.loop-action.action-index c.action-item.result c.loop-action.lowest c.if-is_left.lowest
+          c.loop-action-test.true c.action-item.is (sym w.if-is_left.ensures) w.lowest-is c.loop-action.invariant
     ]
 
 pub returns : goal.returns

@@ -10,7 +10,7 @@ loop-action-preserved g c =
     let scene = scene_of g.G.Ground.meaning in
     action_on c.args.actions.now c.loop-action.action-index c.action-item.result c.loop-action-test.true c.action-item.is
     c.loop-action.time c.start-start.result (scene c.loop-action.site) (scene c.wait.new.site) (scene c.call.new.site)
-    c.start-start.ensures c.wait.ensures c.call.ensures.after c.in-default.ensures.answer
+    c.start-start.ensures c.wait.ensures c.call.ensures.after c.in_default.ensures.answer
     ∙ c.loop-action.invariant
 
 pub returns-in-Err : goal.returns-in-Err
@@ -20,7 +20,7 @@ returns-in-Err g c =
     c.loop-action.time c.start-start.result (scene c.loop-action.site) (scene c.wait.new.site) (scene c.call.new.site)
     c.start-start.ensures c.wait.ensures c.call.ensures.after (told_of c.in-Err.refusal) c.in-Err.ensures.answer in
     record {
-      answer = ap Some c.on-line.ensures ∙ ap (λ (o : Outcome). o.answer) (sym stops ∙ c.loop-action.invariant);
+      answer = ap Some c.on_line.ensures ∙ ap (λ (o : Outcome). o.answer) (sym stops ∙ c.loop-action.invariant);
       after = ap (λ (o : Outcome). o.site) (sym stops ∙ c.loop-action.invariant);
     }
 

@@ -8,10 +8,10 @@ use Rattle.undertaking.proofs.Turning.{run_more, replies_more, run_none, replies
 use Rattle.undertaking.proofs.performing.make_all.Goals as goal
 
 pub loop-call-init : goal.loop-call-init
-loop-call-init g c = (refl, refl, omega (arith, c.requires, ap length c.into-iter-call-iterator.ensures.into-iter-gives.0, c.args.calls.ok.0))
+loop-call-init g c = (refl, refl, omega (arith, c.requires, ap length c.into_iter-call-iterator.ensures.into_iter_gives.0, c.args.calls.ok.0))
 
-pub push-reserved-requires : goal.push-reserved-requires
-push-reserved-requires g c = omega (arith, ap length c.in-Some.ensures.steps.0, c.loop-call.invariant.2)
+pub push_reserved-requires : goal.push_reserved-requires
+push_reserved-requires g c = omega (arith, ap length c.in-Some.ensures.steps.0, c.loop-call.invariant.2)
 
 pub loop-call-preserved : goal.loop-call-preserved
 loop-call-preserved g c =
@@ -20,12 +20,12 @@ loop-call-preserved g c =
     let left = into_iter_items c.loop-call.call-iterator in
     let rest = into_iter_items c.next.new.self in
     let before = vec_items c.loop-call.answers in
-    let after = vec_items c.push-reserved.new.self in (
-      run_more v w c.in-Some.call rest left before after c.make.result c.in-Some.ensures.steps.0 c.make.ensures.answer c.make.ensures.after c.push-reserved.ensures.items
+    let after = vec_items c.push_reserved.new.self in (
+      run_more v w c.in-Some.call rest left before after c.make.result c.in-Some.ensures.steps.0 c.make.ensures.answer c.make.ensures.after c.push_reserved.ensures.items
           ∙ c.loop-call.invariant.0,
-      replies_more v w c.in-Some.call rest left before after c.make.result c.in-Some.ensures.steps.0 c.make.ensures.answer c.make.ensures.after c.push-reserved.ensures.items
+      replies_more v w c.in-Some.call rest left before after c.make.result c.in-Some.ensures.steps.0 c.make.ensures.answer c.make.ensures.after c.push_reserved.ensures.items
           ∙ c.loop-call.invariant.1,
-      omega (arith, ap length c.in-Some.ensures.steps.0, c.loop-call.invariant.2, c.push-reserved.ensures.len, c.push-reserved.ensures.capacity),
+      omega (arith, ap length c.in-Some.ensures.steps.0, c.loop-call.invariant.2, c.push_reserved.ensures.len, c.push_reserved.ensures.capacity),
     )
 
 pub returns : goal.returns
@@ -34,7 +34,7 @@ returns g c =
     let w = scene_of g.G.Ground.meaning c.args.site.now in
     let it = c.loop-call.call-iterator in
     let none : into_iter_items it ≡ [] = nil_from_length (into_iter_items it) (omega (arith, c.in-None.ensures.steps.0, it.rest.ok.0)) in
-    let all = c.into-iter-call-iterator.ensures.into-iter-gives.0 in
+    let all = c.into_iter-call-iterator.ensures.into_iter_gives.0 in
     record {
       after = run_none v (into_iter_items it) none ∙ c.loop-call.invariant.0 ∙ ap (run w) all;
       answers = replies_none v (into_iter_items it) none (map reply_of (vec_items c.loop-call.answers)) ∙ c.loop-call.invariant.1

@@ -10,8 +10,8 @@ use Rattle.undertaking.proofs.Making.{proper}
 use Rattle.undertaking.proofs.Undertaken.{undertaken}
 use Rattle.undertaking.proofs.performing.perform.Goals as goal
 
-pub make-all-requires : goal.make-all-requires
-make-all-requires g c = omega (arith, c.args.stage.no_answers, c.args.stage.answers_fit)
+pub make_all-requires : goal.make_all-requires
+make_all-requires g c = omega (arith, c.args.stage.no_answers, c.args.stage.answers_fit)
 
 pub returns : goal.returns
 returns g c =
@@ -20,8 +20,8 @@ returns g c =
     let calls = vec_items c.args.stage.calls in
     let none = nil_from_length (vec_items c.args.stage.answers) (sym c.args.stage.answers.ok.0 ∙ c.args.stage.no_answers) in
     let v = scene_of g.G.Ground.meaning c.open-site.result in
-    let site = c.make-all.ensures.after ∙ ap (λ (u : Scene). run u calls) c.open-site.ensures in
-    let answers = c.make-all.ensures.answers ∙ ap (λ (xs : List Answer). map reply_of xs ++ replies v calls) none ∙ ap (λ (u : Scene). replies u calls) c.open-site.ensures in
+    let site = c.make_all.ensures.after ∙ ap (λ (u : Scene). run u calls) c.open-site.ensures in
+    let answers = c.make_all.ensures.answers ∙ ap (λ (xs : List Answer). map reply_of xs ++ replies v calls) none ∙ ap (λ (u : Scene). replies u calls) c.open-site.ensures in
     let S : Scene → Type 0 = Undertaking m s calls (replies (opened m s) calls) in
-    let A : List Reply → Type 0 = λ rs. Undertaking m s calls rs (scene_of g.G.Ground.meaning c.make-all.new.site) in
+    let A : List Reply → Type 0 = λ rs. Undertaking m s calls rs (scene_of g.G.Ground.meaning c.make_all.new.site) in
     subst A (sym answers) (subst S (sym site) (undertaken m s (g.met.G.Ground.lawful c.args.ground) (proper c.args.settings) calls))

@@ -17,5 +17,5 @@ pub returns : goal.returns
 returns g c =
     let v = scene_of g.G.Ground.meaning c.args.self.now in
     let k = Enter c.args.column c.args.block in
-    performed v (g.met.G.Ground.lawful c.args.self.now.ground) k None (scene_of g.G.Ground.meaning c.put.new.self) c.in-default.ensures
+    performed v (g.met.G.Ground.lawful c.args.self.now.ground) k None (scene_of g.G.Ground.meaning c.put.new.self) c.in_default.ensures
     (c.put.ensures ∙ ap (λ n. with_columns v (put v.columns c.args.column (Busy (Entering c.args.block) n))) c.duration-left.ensures.value)

@@ -18,6 +18,6 @@ returns-in-Some g c =
 pub returns : goal.returns
 returns g c =
     let v = scene_of g.G.Ground.meaning c.args.self.now in
-    performed v (g.met.G.Ground.lawful c.args.self.now.ground) (Leave c.args.column) None (scene_of g.G.Ground.meaning c.put.new.self) c.in-default.ensures
-    (c.put.ensures ∙ ap (λ n. with_columns v (put v.columns c.args.column (Busy (Leaving c.has-block-block.result) n))) c.duration-left.ensures.value
-    ∙ ap (λ b. with_columns v (put v.columns c.args.column (Busy (Leaving b) v.settings.times.leave))) (c.has-block-block.ensures ∙ ap (λ (x : Column). carries x.state) c.look.ensures))
+    performed v (g.met.G.Ground.lawful c.args.self.now.ground) (Leave c.args.column) None (scene_of g.G.Ground.meaning c.put.new.self) c.in_default.ensures
+    (c.put.ensures ∙ ap (λ n. with_columns v (put v.columns c.args.column (Busy (Leaving c.has_block-block.result) n))) c.duration-left.ensures.value
+    ∙ ap (λ b. with_columns v (put v.columns c.args.column (Busy (Leaving b) v.settings.times.leave))) (c.has_block-block.ensures ∙ ap (λ (x : Column). carries x.state) c.look.ensures))

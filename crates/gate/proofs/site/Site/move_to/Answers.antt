@@ -18,7 +18,7 @@ returns-in-Some g c =
 pub returns : goal.returns
 returns g c =
     let v = scene_of g.G.Ground.meaning c.args.self.now in
-    performed v (g.met.G.Ground.lawful c.args.self.now.ground) (Move c.args.from c.args.to) None (scene_of g.G.Ground.meaning c.begin.new.self) c.in-default.ensures
-    (c.begin.ensures ∙ ap (λ n. with_columns v (begin v.columns c.args.from c.args.to (Departing c.has-block-block.result c.args.to) n)) c.duration-left.ensures.value
+    performed v (g.met.G.Ground.lawful c.args.self.now.ground) (Move c.args.from c.args.to) None (scene_of g.G.Ground.meaning c.begin.new.self) c.in_default.ensures
+    (c.begin.ensures ∙ ap (λ n. with_columns v (begin v.columns c.args.from c.args.to (Departing c.has_block-block.result c.args.to) n)) c.duration-left.ensures.value
     ∙ ap (λ b. with_columns v (begin v.columns c.args.from c.args.to (Departing b c.args.to) (duration v.settings (Move c.args.from c.args.to) b)))
-    (c.has-block-block.ensures ∙ ap (λ (x : Column). carries x.state) c.look.ensures))
+    (c.has_block-block.ensures ∙ ap (λ (x : Column). carries x.state) c.look.ensures))

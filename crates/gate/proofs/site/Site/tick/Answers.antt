@@ -5,15 +5,15 @@ use Rattle.gate.specs.View.{scene_of}
 use Rattle.gate.proofs.Deciding.{performed}
 use Rattle.gate.proofs.site.Site.tick.Goals as goal
 
-pub renew-marks-requires : goal.renew-marks-requires
-renew-marks-requires g c = omega (arith, (g.met.G.Ground.lawful c.tick-columns.new.self.ground).few)
+pub renew_marks-requires : goal.renew_marks-requires
+renew_marks-requires g c = omega (arith, (g.met.G.Ground.lawful c.tick_columns.new.self.ground).few)
 
 pub returns : goal.returns
 returns g c =
     let v = scene_of g.G.Ground.meaning c.args.self.now in
-    let w = scene_of g.G.Ground.meaning c.tick-columns.new.self in
-    performed v (g.met.G.Ground.lawful c.args.self.now.ground) Tick None (with_marks w c.renew-marks.new.marks) refl
-    (ap (with_marks w) c.renew-marks.ensures
+    let w = scene_of g.G.Ground.meaning c.tick_columns.new.self in
+    performed v (g.met.G.Ground.lawful c.args.self.now.ground) Tick None (with_marks w c.renew_marks.new.marks) refl
+    (ap (with_marks w) c.renew_marks.ensures
     ∙ ap (λ (n : ℕ). with_marks w (renewed_marks n c.deref.result.now w.marks)) c.columns.ensures
     ∙ ap (λ (xs : Columns). with_marks w (renewed_marks w.meaning.columns xs w.marks)) c.deref.ensures.value
-    ∙ ap (λ (x : Scene). with_marks x (renewed_marks x.meaning.columns x.columns x.marks)) c.tick-columns.ensures)
+    ∙ ap (λ (x : Scene). with_marks x (renewed_marks x.meaning.columns x.columns x.marks)) c.tick_columns.ensures)

@@ -5,25 +5,25 @@ use Rattle.service.specs.declared.deed.Deed.{Deed}
 use Rattle.service.specs.View.{deed_of}
 use Rattle.service.proofs.stage.Stage.add.Goals as goal
 
-pub returns-then-has-room : goal.returns-then-has-room
-returns-then-has-room c =
+pub returns-then-has_room : goal.returns-then-has_room
+returns-then-has_room c =
     let items = vec_items c.args.self.now.deeds in
     let most = c.args.self.now.most in
     let d = c.args.deed in
     record {
       taken = ap (λ (n : ℕ). ltb n most) (c.len.ensures ∙ c.args.self.now.deeds.ok.0 ∙ sym (length-map items deed_of));
-      deeds = ap (λ (ds : List Deed). map deed_of ds) c.push-reserved.ensures.items ∙ map_push deed_of items d
-          ∙ sym (cond-true (ltb c.len.result most) (map deed_of items ++ (deed_of d ∷ [])) (map deed_of items) (lt-ltb c.len.result most c.if-has-room.true));
+      deeds = ap (λ (ds : List Deed). map deed_of ds) c.push_reserved.ensures.items ∙ map_push deed_of items d
+          ∙ sym (cond-true (ltb c.len.result most) (map deed_of items ++ (deed_of d ∷ [])) (map deed_of items) (lt-ltb c.len.result most c.if-has_room.true));
       room = refl;
     }
 
-pub returns-else-has-room : goal.returns-else-has-room
-returns-else-has-room c =
+pub returns-else-has_room : goal.returns-else-has_room
+returns-else-has_room c =
     let items = vec_items c.args.self.now.deeds in
     let most = c.args.self.now.most in
     let d = c.args.deed in
     record {
       taken = ap (λ (n : ℕ). ltb n most) (c.len.ensures ∙ c.args.self.now.deeds.ok.0 ∙ sym (length-map items deed_of));
-      deeds = sym (cond-false (ltb c.len.result most) (map deed_of items ++ (deed_of d ∷ [])) (map deed_of items) (le-ltb c.len.result most c.if-has-room.false));
+      deeds = sym (cond-false (ltb c.len.result most) (map deed_of items ++ (deed_of d ∷ [])) (map deed_of items) (le-ltb c.len.result most c.if-has_room.false));
       room = refl;
     }
