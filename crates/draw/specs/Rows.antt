@@ -1,5 +1,5 @@
 -- The drawing of heights: sixteen to a row, three places each, a newline after each row. Assumes nothing.
-use Rattle.std.specs.Prelude.{◌≡◌, ℕ, zero, suc, ◌+◌, ◌/◌, ◌%◌, Bool, true, false, cond, List, [], ◌∷◌, ◌++◌, length, take, drop, Ok, Err, Option, Result, nat_le, nat_lt}
+use Rattle.std.specs.Prelude.{ℕ, zero, suc, ◌+◌, ◌/◌, ◌%◌, cond, List, [], ◌∷◌, ◌++◌, length, take, drop, Ok, Err, Option, Result, nat_le, nat_lt}
 use Rattle.std.specs.List.{flat_map}
 use Rattle.terms.specs.Refusals.{Told, first_of, told}
 use Rattle.terms.specs.declared.refusal.Refusal.{Refusal}

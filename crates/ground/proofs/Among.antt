@@ -1,12 +1,12 @@
 -- A column is linked with just those that are told one by one. Assumes nothing.
 use Rattle.std.proofs.Common.{◌≡◌, ℕ, zero, suc, ◌+◌, ◌<◌, ◌≤◌, Bool, true, false, List, [], ◌∷◌, length, Some, filter, Option, sym, ap, ◌∙◌, subst, ⊎_elim, arith}
-use Rattle.std.specs.List.{range_with_len, AllByRecursion as All, slice_get}
+use Rattle.std.specs.List.{range_with_len, AllByRecursion, slice_get}
 use Rattle.std.proofs.ByRecursion.{kept_by_passes}
 use Rattle.std.proofs.lemmas.Option.{slice_get_past}
 use Rattle.std.proofs.lemmas.Bool.{cases_Bool, cases_eq, cases_lt, cond-true, cond-false}
 use Rattle.ground.specs.Meaning.{Meaning, Lawful, neighbours}
 
-all_nth : (P : ℕ → Type 0) (xs : List ℕ) (k d : ℕ) → All P xs → slice_get xs k ≡ Some d → P d
+all_nth : (P : ℕ → Type 0) (xs : List ℕ) (k d : ℕ) → AllByRecursion P xs → slice_get xs k ≡ Some d → P d
 all_nth P [] k d a h = let z : ◌≡◌ {A = ℕ} 0 1 = cc in absurd (omega arith)
 all_nth P (x ∷ xs) zero d a h = let e : x ≡ d = cc in subst P e a.0
 all_nth P (x ∷ xs) (suc k) d a h = all_nth P xs k d a.1 h

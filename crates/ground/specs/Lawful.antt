@@ -1,10 +1,13 @@
--- The square ground obeys what every ground obeys. Assumes nothing.
-use Rattle.std.specs.Prelude.{◌≡◌, ℕ, ◌*◌, ◌/◌, ◌%◌, ◌≤◌, false, nat_lt}
+-- The square and the listed ground obey what every ground obeys. Assumes nothing.
+use Rattle.std.specs.Prelude.{◌≡◌, ℕ, ◌*◌, ◌/◌, ◌%◌, ◌<◌, ◌≤◌, Bool, true, false, cond, List, [], length, nat_lt, slice_index_or}
 use Rattle.std.proofs.Common.{sym, ◌∙◌, mul-le-mul, mul-pos, arith}
 use Rattle.std.proofs.lemmas.Bool.{and_from, and_parts, and_right, ltb-true}
 use Rattle.std.proofs.lemmas.Bool.Decides.{nat_tests}
-use Rattle.ground.specs.Meaning.{Lawful}
+use Rattle.std.proofs.lemmas.List.{length-take}
+use Rattle.ground.specs.Meaning.{Lawful, neighbours}
 use Rattle.ground.specs.Squared.{near, squared}
+use Rattle.ground.specs.Table.{entries, in_row, no_row, tabled}
+use Rattle.ground.specs.declared.row.Row.{Row}
 
 near_back : (i j k l : ℕ) → near i j k l ≡ near k l i j
 near_back i j k l = grind (arith, nat_tests)
@@ -25,3 +28,26 @@ square_lawful x y x_low x_high y_low y_high = record {
       and_from (nat_lt d (x * y)) _ inner.0 (and_from (nat_lt c (x * y)) _ outer.0 (sym back ∙ inner.1));
   no_loop = λ c. and_right (nat_lt c (x * y)) _ (and_right (nat_lt c (x * y)) _ (near_self (c / y) (c % y)));
 }
+
+-- a table of rows is a ground where its links are within it, both ways and to other columns
+pub listed_lawful : (n : ℕ) (rows : List Row) → 1 ≤ n → n ≤ 256
+    → ((c d : ℕ) → (tabled n rows).linked c d ≡ true → d < n)
+    → ((c d : ℕ) → (tabled n rows).linked c d ≡ true → (tabled n rows).linked d c ≡ true)
+    → ((c : ℕ) → (tabled n rows).linked c c ≡ false) → Lawful (tabled n rows)
+listed_lawful n rows low high within both_ways no_loop = record {
+  some = low;
+  few = high;
+  at_border = λ c h. ltb-true c n (and_parts (nat_lt c n) _ h).0;
+  within = within;
+  both_ways = both_ways;
+  no_loop = no_loop;
+}
+
+few_entries : (b : Bool) (r : Row) → r.count ≤ 6 → length (cond b (entries r) []) ≤ 6
+few_entries true r h = omega (arith, length-take r.count r.to)
+few_entries false r h = omega arith
+
+-- and no column has more links than a row holds
+pub listed_few : (n : ℕ) (rows : List Row) → ((c : ℕ) → (slice_index_or rows c no_row).count ≤ 6)
+    → ((c : ℕ) → neighbours (tabled n rows) c ≡ in_row n rows c) → (c : ℕ) → length (neighbours (tabled n rows) c) ≤ 6
+listed_few n rows short tell c = rw tell (few_entries (nat_lt c n) (slice_index_or rows c no_row) (short c))

@@ -6,7 +6,7 @@ ghost use Rattle.ground.specs.Listing.{Inside, Crowded, above, ascends, border_f
 ghost use Rattle.ground.specs.Meaning.{Same};
 ghost use Rattle.ground.specs.Table.{Filled, other};
 ghost use Rattle.ground.specs.View.{listed_of};
-ghost use Rattle.std.proofs.Common.{rules, arith};
+ghost use Rattle.ground.specs.Lawful.{listed_lawful, listed_few};
 
 use crate::row::Row;
 use crate::{Ground, Listed};
@@ -107,9 +107,9 @@ impl Ground for Listed {
 
     ghost most = { 6 };
 
-    ghost lawful = { first_of (Prim.search rules, Prim.grind (arith, Self.row.coded.inj)) };
+    ghost lawful = { λ g. listed_lawful g.columns g.rows g.columns_low g.columns_high g.within g.both_ways g.no_loop };
 
-    ghost few = { first_of (Prim.search rules, Prim.grind (arith, Self.row.coded.inj)) };
+    ghost few = { λ g. listed_few g.columns g.rows g.rows_short g.rows_tell };
 
     fn limit() -> usize {
         Self::MOST_LINKS

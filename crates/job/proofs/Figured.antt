@@ -1,9 +1,8 @@
 -- The figures of a plan in words are the ones that are computed. Assumes nothing.
-use Rattle.std.proofs.Common.{◌≡◌, ℕ, zero, suc, ◌<◌, ◌≤◌, max, ◌⊎◌, List, [], ◌∷◌, map, length, get_or, sum_by, count_by, sym, refl, ap, ◌∙◌, inl, inr, arith}
-use Rattle.std.proofs.lemmas.List.{nil_from_length}
+use Rattle.std.proofs.Common.{◌≡◌, ℕ, zero, suc, ◌<◌, ◌≤◌, ◌⊎◌, List, [], ◌∷◌, map, length, count_by, inl, inr, arith}
 use Rattle.plan.specs.Plan.{Action, line, makespan, runs}
 use Rattle.plan.proofs.Busiest.{busiest}
-use Rattle.judge.specs.Figures.{Figures, cost}
+use Rattle.judge.specs.Figures.{Figures}
 use Rattle.job.specs.Replies.{largest, most_at_once}
 
 -- no element is above the largest, and the largest is 0 or an element

@@ -1,5 +1,5 @@
 -- A job whose line is read and whose ground and settings are made is refused as its sheet is. Assumes nothing.
-use Rattle.std.proofs.Common.{◌≡◌, ℕ, List, Some, None, Ok, Err, Option, Result, sym, refl, ap, ◌∙◌, subst}
+use Rattle.std.proofs.Common.{◌≡◌, ℕ, List, Some, None, Ok, Option, Result, sym, ap, ◌∙◌}
 use Rattle.terms.specs.Durations.{SiteSettings}
 use Rattle.terms.specs.Ranges.{settings_from}
 use Rattle.terms.specs.Refusals.{Told, first_of, or_else}

@@ -1,12 +1,12 @@
 -- What comes of playing a job's plan, as it is printed. Assumes nothing.
-use Rattle.std.proofs.Common.{◌≡◌, ℕ, ◌<◌, List, [], ◌∷◌, ◌++◌, map, Some, None, codes, Option, sym, refl, ap, ◌∙◌, subst, arith}
+use Rattle.std.proofs.Common.{◌≡◌, ℕ, ◌<◌, List, ◌++◌, map, Some, None, codes, sym, ◌∙◌, subst, arith}
 use Rattle.std.specs.List.{range_with_len}
 use Rattle.std.proofs.lemmas.List.FromFn.{fill_by_all, get_or-map-range_with_len, length-map-range_with_len}
 use Rattle.terms.specs.Durations.{SiteSettings}
-use Rattle.terms.specs.Refusals.{Settles, Silent, Told, told}
+use Rattle.terms.specs.Refusals.{Silent, Told, told}
 use Rattle.terms.specs.declared.refusal.Rule.TheVariants.{NoWayHome}
-use Rattle.gate.specs.Scene.{Scene, height_at}
-use Rattle.plan.specs.Plan.{Action, line}
+use Rattle.gate.specs.Scene.{height_at}
+use Rattle.plan.specs.Plan.{line}
 use Rattle.plan.specs.Rules.{target_of}
 use Rattle.sheet.specs.View.{records_in}
 use Rattle.play.specs.Play.{Outcome}

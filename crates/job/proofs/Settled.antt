@@ -1,13 +1,12 @@
 -- Each test of a job decides its reason in words, so the first that holds settles the job. Assumes nothing.
-use Rattle.std.proofs.Common.{◌≡◌, ℕ, ◌<◌, ◌≤◌, Bool, true, false, not, ◌&&◌, eqb, ltb, leb, ◌⊎◌, List, [], ◌∷◌, ◌++◌, length, get_or, take, is_some, Some, None, Ok, Err, codes, Decides, Option, Result, unwrap_or, sym, refl, ap, ◌∙◌, inl, inr, arith}
+use Rattle.std.proofs.Common.{◌≡◌, ℕ, ◌<◌, ◌≤◌, not, ◌&&◌, eqb, leb, List, [], ◌∷◌, ◌++◌, length, get_or, take, is_some, Some, None, Ok, Err, codes, Decides, Option, Result, unwrap_or, refl, arith}
 use Rattle.std.specs.Result.{result_err}
-use Rattle.std.proofs.lemmas.Bool.{and_parts, eqb-true}
 use Rattle.std.proofs.lemmas.Bool.Decides.{Decides-and, Decides-eqb, Decides-like, Decides-ltb, Decides-not, nat_tests}
-use Rattle.terms.specs.Ranges.{InRange, settings_from, settings_reasons, settings_refusal, within}
-use Rattle.terms.specs.Refusals.{Reason, Settles, Told, first_of, or_else, told}
+use Rattle.terms.specs.Ranges.{settings_from, settings_reasons, settings_refusal, within}
+use Rattle.terms.specs.Refusals.{Settles, Told, first_of, or_else, told}
 use Rattle.terms.specs.declared.refusal.Rule.TheVariants.{SheetShape, LineShape, FieldUnreadable, SquareSize, SettingsRange}
-use Rattle.terms.proofs.First.{Decide, first_settles}
-use Rattle.ground.specs.Squared.{Sized, square_reasons, square_refusal, squared}
+use Rattle.terms.proofs.First.{first_settles}
+use Rattle.ground.specs.Squared.{square_reasons, square_refusal, squared}
 use Rattle.sheet.specs.Lines.{spelt}
 use Rattle.sheet.specs.Reading.{reading_refusal}
 use Rattle.sheet.specs.Reasons.{reading_reasons}

@@ -1,5 +1,5 @@
 -- What the program answers, in words. Assumes nothing.
-use Rattle.std.specs.Prelude.{◌≡◌, ℕ, ◌<◌, true, List, [], ◌∷◌, ◌++◌, map, length, take, Ok, Err, codes, Result, slice_index_or}
+use Rattle.std.specs.Prelude.{◌≡◌, ℕ, ◌<◌, List, [], ◌∷◌, ◌++◌, map, length, take, Ok, Err, codes, Result, slice_index_or}
 use Rattle.terms.specs.Ranges.{settings_from, settings_reasons}
 use Rattle.terms.specs.Refusals.{Reason, Silent, Speaks, Told, told}
 use Rattle.terms.specs.declared.refusal.Rule.TheVariants.{SheetShape, LineShape, FieldUnreadable, NoWayHome}

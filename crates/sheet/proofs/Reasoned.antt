@@ -1,6 +1,5 @@
 -- Each test of reading decides its reason in words, so the first that holds settles a sheet. Assumes nothing.
-use Rattle.std.proofs.Common.{◌≡◌, ℕ, suc, ◌-◌, ◌%◌, ◌<◌, ◌≤◌, Bool, true, false, cond, not, ◌&&◌, ◌||◌, eqb, ltb, leb, ◌⊎◌, List, [], ◌∷◌, ◌++◌, length, get_or, Some, None, Decides, Option, sym, refl, ap, ◌∙◌, subst, inl, inr, ⊎_elim, arith}
-use Rattle.std.specs.List.{AllByRecursion as All}
+use Rattle.std.proofs.Common.{◌≡◌, ℕ, suc, ◌%◌, ◌<◌, ◌≤◌, Bool, true, false, cond, not, ◌&&◌, eqb, ltb, leb, ◌⊎◌, List, ◌∷◌, length, get_or, Some, None, Decides, Option, sym, refl, ap, ◌∙◌, subst, inl, inr, ⊎_elim, arith}
 use Rattle.std.proofs.lemmas.Bool.Decides.{Decides-and, Decides-eqb, Decides-like, Decides-ltb, Decides-not, Decides-or, nat_tests}
 use Rattle.std.proofs.ByRecursion.{Decides-by_and}
 use Rattle.std.proofs.lemmas.Bool.{and_from, and_left, and_right, cases_Bool, eq-eqb, eqb-true, ne_eqb, not_from_false, not-true, true≢false}
@@ -12,7 +11,7 @@ use Rattle.ground.specs.Meaning.{Meaning}
 use Rattle.sheet.specs.declared.record.Record.{Record}
 use Rattle.sheet.specs.declared.record.Record.TheVariants.{Goal, Act, Note, End}
 use Rattle.sheet.specs.declared.target.Target.{Target}
-use Rattle.sheet.specs.Lines.{Word, bad_field, bad_shape, fields, misshapen, plain_byte, printable, word, word_in}
+use Rattle.sheet.specs.Lines.{Word, bad_field, bad_shape, fields, misshapen, plain_byte, printable, word}
 use Rattle.sheet.specs.Reading.{acts, bad_sheet, end_misplaced, goal_fits, goal_misplaced, line_at, lines_in, reading_refusal, rises, shown_at, targets, tests_at}
 use Rattle.sheet.specs.Reasons.{BadSheet, BadShape, IsEndMisplaced, GoalFits, IsGoalMisplaced, Printable, reading_reasons, reasons_at}
 

@@ -1,5 +1,5 @@
 -- The refusal of a sheet, one line after another. Assumes nothing.
-use Rattle.std.proofs.Common.{◌≡◌, ℕ, suc, ◌+◌, Bool, true, false, cond, eqb, List, [], ◌∷◌, ◌++◌, length, Some, None, Option, sym, refl, ap, ◌∙◌, add-one}
+use Rattle.std.proofs.Common.{◌≡◌, ℕ, suc, ◌+◌, Bool, true, false, cond, eqb, List, ◌++◌, length, Some, Option, sym, ap, ◌∙◌, add-one}
 use Rattle.terms.specs.Durations.{SiteSettings}
 use Rattle.terms.specs.Refusals.{Told, told, first_of, from_on, or_else}
 use Rattle.terms.specs.declared.refusal.Rule.TheVariants.{SheetShape}

@@ -1,13 +1,13 @@
 -- Why a sheet is refused, in words: each rule of reading as what has to be the case. Assumes nothing.
-use Rattle.std.specs.Prelude.{◌≡◌, ℕ, suc, ◌-◌, ◌%◌, ◌<◌, ◌≤◌, Bool, true, false, ◌⊎◌, List, [], ◌∷◌, length, Some, None, Option, ◌≢◌, slice_index, slice_index_or}
+use Rattle.std.specs.Prelude.{◌≡◌, ℕ, suc, ◌-◌, ◌%◌, ◌<◌, ◌≤◌, false, ◌⊎◌, List, [], ◌∷◌, length, Some, None, Option, ◌≢◌, slice_index, slice_index_or}
 use Rattle.std.specs.Option.{unwrap_or}
-use Rattle.std.specs.List.{AllByRecursion as All}
+use Rattle.std.specs.List.{AllByRecursion}
 use Rattle.terms.specs.Durations.{SiteSettings}
 use Rattle.terms.specs.Refusals.{Reason, told, from_on}
 use Rattle.terms.specs.declared.refusal.Rule.TheVariants.{SheetShape, LineShape, FieldUnreadable, GoalMisplaced, EndMisplaced}
 use Rattle.ground.specs.Meaning.{Meaning}
 use Rattle.sheet.specs.declared.record.Record.{Record}
-use Rattle.sheet.specs.declared.record.Record.TheVariants.{Goal, Act, Note, End}
+use Rattle.sheet.specs.declared.record.Record.TheVariants.{Goal, End}
 use Rattle.sheet.specs.declared.target.Target.{Target}
 use Rattle.sheet.specs.Lines.{Word, bad_field, fields, word}
 use Rattle.sheet.specs.Reading.{acts, line_at, lines_in, shown_at, targets}
@@ -19,7 +19,7 @@ pub data BadSheet (sheet : List ℕ) : Type 0 where
   too_long : 1500 < lines_in sheet → BadSheet sheet
 
 abbrev pub Printable : List ℕ → Type 0
-Printable bs = All (λ b. (32 ≤ b) × (b ≤ 126)) bs
+Printable bs = AllByRecursion (λ b. (32 ≤ b) × (b ≤ 126)) bs
 
 -- byte 35 of a line is no newline, its word is unknown, or it is a note that cannot be printed
 pub data BadShape (l : List ℕ) : Type 0 where

@@ -1,7 +1,7 @@
 -- What the thirty bytes behind a line's word show, or which field cannot be read. Assumes nothing.
-use Rattle.std.specs.Prelude.{ℕ, Bool, cond, List, take, drop, Some, None, Ok, Err, Option, Result}
+use Rattle.std.specs.Prelude.{ℕ, cond, List, take, drop, Some, None, Ok, Err, Option, Result}
 use Rattle.sheet.specs.declared.record.Record.{Record}
-use Rattle.sheet.specs.declared.record.Record.TheVariants.{Goal, Act, Note, End}
+use Rattle.sheet.specs.declared.record.Record.TheVariants.{Goal, Act, End}
 use Rattle.sheet.specs.Fields.{number_in, letter_in, place_in, flag, blank}
 
 -- n bytes from place a on

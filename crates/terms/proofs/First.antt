@@ -1,7 +1,7 @@
 -- The first test that holds gives the first reason that holds, where each test decides its reason. Assumes nothing.
-use Rattle.std.proofs.Common.{◌≡◌, ℕ, zero, suc, ◌+◌, ◌-◌, ◌<◌, Bool, true, false, cond, ◌⊎◌, List, [], ◌∷◌, ◌++◌, is_some, Some, None, Ok, Err, Decides, Option, Result, sym, refl, ap, ◌∙◌, subst, inl, inr, arith}
+use Rattle.std.proofs.Common.{◌≡◌, ℕ, zero, suc, ◌+◌, ◌-◌, ◌<◌, Bool, true, false, cond, List, [], ◌∷◌, ◌++◌, is_some, Some, None, Ok, Err, Decides, Option, Result, sym, refl, ap, ◌∙◌, subst, inl, inr, arith}
 use Rattle.terms.specs.declared.refusal.Refusal.{Refusal}
-use Rattle.terms.specs.Refusals.{Answers, refusal_in, Told, Reason, Silent, Speaks, Settles, first_of, from_on, or_else}
+use Rattle.terms.specs.Refusals.{Answers, refusal_in, Told, Reason, Settles, first_of, from_on, or_else}
 
 -- each test decides the reason at its place, and tells the same
 abbrev pub Decide : List (Bool × Told) → List Reason → Type 0

@@ -1,5 +1,5 @@
 -- Which numbers settings can be made of. Assumes nothing.
-use Rattle.std.specs.Prelude.{◌≡◌, ℕ, ◌≤◌, Bool, not, ◌&&◌, ◌||◌, List, [], ◌∷◌, Some, None, Option, nat_le}
+use Rattle.std.specs.Prelude.{ℕ, ◌≤◌, Bool, not, ◌&&◌, List, [], ◌∷◌, Option, nat_le}
 use Rattle.std.specs.Option.{unwrap_or}
 use Rattle.terms.specs.declared.refusal.Rule.TheVariants.{SettingsRange}
 use Rattle.terms.specs.Durations.{SiteSettings, duration_set, times}

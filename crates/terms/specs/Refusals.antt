@@ -1,5 +1,5 @@
 -- Refusals: each rule's number and layer, what a refusal tells, and the first that applies. Assumes nothing.
-use Rattle.std.specs.Prelude.{◌≡◌, ℕ, zero, suc, Bool, true, false, cond, ◌⊎◌, List, [], ◌∷◌, ◌++◌, Some, None, Ok, Err, Option, Result}
+use Rattle.std.specs.Prelude.{◌≡◌, ℕ, zero, suc, Bool, cond, ◌⊎◌, List, [], ◌∷◌, ◌++◌, Some, None, Ok, Err, Option, Result}
 use Rattle.terms.specs.declared.refusal.Layer.{Layer}
 use Rattle.terms.specs.declared.refusal.Layer.TheVariants.{Making, Sheet, Line, Judge, SheetEnd, Gate, Recall, Play, Drawing}
 use Rattle.terms.specs.declared.refusal.Rule.{Rule}

@@ -1,6 +1,6 @@
 -- The first test that holds, and what each test that fails tells. Assumes nothing.
 use Rattle.std.proofs.Common.{◌≡◌, ℕ, zero, suc, ◌<◌, Bool, true, false, cond, not, ltb, List, [], ◌∷◌, is_some, Some, None, Option, sym, refl, ap, ◌∙◌, inl, inr, arith}
-use Rattle.std.specs.List.{AllByRecursion as All}
+use Rattle.std.specs.List.{AllByRecursion}
 use Rattle.std.proofs.lemmas.Bool.{false≢true, true≢false, not-false, not_from_true, ltb-true, lt-ltb, or_parts, and_from, cond-false, cases_eq}
 use Rattle.gate.specs.Column.{held, stands, robot, carries}
 use Rattle.gate.specs.Gate.{off, stranded_by, lowest_stranded}
@@ -16,7 +16,7 @@ use Rattle.ways.specs.Table.{steps}
 use Rattle.ways.specs.Way.{Way}
 
 abbrev pub Fail : List (Bool × Told) → Type 0
-Fail ts = All (λ (t : Bool × Told). t.0 ≡ false) ts
+Fail ts = AllByRecursion (λ (t : Bool × Told). t.0 ≡ false) ts
 
 cond_none : (b : Bool) (r : Told) (o : Option Told) → cond b (Some r) o ≡ None → (b ≡ false) × (o ≡ None)
 cond_none true r o e = absurd (none≢some (sym e))

@@ -12,7 +12,6 @@ use Rattle.gate.specs.declared.column.State.TheVariants.{Busy}
 use Rattle.ground.specs.Meaning.{Meaning}
 use Rattle.terms.specs.Durations.{SiteSettings}
 use Rattle.undertaking.proofs.Plain.{relief}
-use Rattle.ways.specs.Table.{near}
 use Rattle.ways.specs.Way.{Relief, Way, Settled}
 use Rattle.ways.specs.Way.Way.{home, onward}
 use Rattle.undertaking.proofs.Seen.{at_tick}

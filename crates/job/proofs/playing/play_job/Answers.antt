@@ -1,4 +1,4 @@
-use Rattle.std.proofs.Common.{◌≡◌, ℕ, ◌*◌, Bool, true, cond, ltb, List, [], ◌∷◌, ◌++◌, map, length, Some, None, vec_items, Option, sym, refl, ap, ◌∙◌, mul-le-mul, arith}
+use Rattle.std.proofs.Common.{◌≡◌, ℕ, Bool, true, cond, ltb, List, [], ◌∷◌, ◌++◌, map, length, Some, None, vec_items, Option, sym, refl, ap, ◌∙◌, mul-le-mul, arith}
 use Rattle.std.specs.List.{range_with_len}
 use Rattle.std.proofs.lemmas.List.{nil_from_length}
 use Rattle.std.proofs.lemmas.Bool.{lt-ltb}
@@ -7,10 +7,9 @@ use Rattle.terms.specs.Durations.{SiteSettings}
 use Rattle.terms.specs.View.{settings_of}
 use Rattle.ground.specs.Meaning.{Meaning}
 use Rattle.gate.specs.Column.{robot}
-use Rattle.gate.specs.Scene.{Scene, height_at, opened}
+use Rattle.gate.specs.Scene.{height_at, opened}
 use Rattle.play.specs.Play.{Fresh}
 use Rattle.play.proofs.Standing.{plays_stand}
-use Rattle.gate.specs.View.{scene_of}
 use Rattle.ground.specs.View.{square_of}
 use Rattle.undertaking.specs.declared.answer.Answer.{Answer}
 use Rattle.undertaking.specs.Runs.{by_refusal, reply_of}

@@ -1,4 +1,4 @@
-use Rattle.std.proofs.Common.{◌≡◌, ℕ, List, [], ◌∷◌, map, length, get_or, None, refl, ◌∙◌, arith}
+use Rattle.std.proofs.Common.{◌≡◌, List, [], ◌∷◌, map, length, get_or, None, refl, ◌∙◌, arith}
 use Rattle.undertaking.specs.declared.answer.Answer.{Answer}
 use Rattle.undertaking.specs.Runs.{reply_of}
 use Rattle.job.specs.View.{first_refusal, refused_by}

@@ -1,6 +1,5 @@
-use Rattle.std.proofs.Common.{◌≡◌, ℕ, List, [], ◌∷◌, ◌++◌, length, Some, None, vec_items, codes, sum_by, Option, sym, refl, ap, ◌∙◌, subst, arith}
+use Rattle.std.proofs.Common.{◌≡◌, ℕ, List, ◌++◌, length, Some, None, vec_items, codes, sum_by, Option, sym, ap, ◌∙◌, subst, arith}
 use Rattle.std.proofs.lemmas.List.{nil_from_length}
-use Rattle.terms.specs.Durations.{SiteSettings}
 use Rattle.terms.specs.Refusals.{Settles, Silent, Told, told_of}
 use Rattle.terms.specs.View.{settings_of}
 use Rattle.ground.specs.Meaning.{Meaning}
@@ -15,7 +14,7 @@ use Rattle.play.specs.Play.{Outcome, play_on}
 use Rattle.play.specs.Stands.{Comes}
 use Rattle.draw.specs.Rows.{text as drawing}
 use Rattle.job.specs.Jobs.{job_refusal, order, sheet_in}
-use Rattle.job.specs.Replies.{answered, ground_of, heights, ok_row, outcome, plan_in, played_reply, reply, row, order_site, told_row}
+use Rattle.job.specs.Replies.{answered, ground_of, heights, ok_row, outcome, plan_in, played_reply, reply, row, told_row}
 use Rattle.job.specs.View.{Judges, site_of}
 use Rattle.job.specs.Words.{Verdict, job_reasons}
 use Rattle.job.specs.declared.opened.Judged.{Judged}

@@ -1,4 +1,4 @@
-use Rattle.std.proofs.Common.{◌≡◌, ℕ, List, [], ◌∷◌, ◌++◌, length, vec_items, sym, ap, ◌∙◌, arith}
+use Rattle.std.proofs.Common.{◌≡◌, ℕ, List, [], ◌∷◌, ◌++◌, length, vec_items, ap, arith}
 use Rattle.std.proofs.lemmas.List.{append_assoc}
 use Rattle.job.specs.Text.{cells}
 use Rattle.job.specs.Replies.{row}

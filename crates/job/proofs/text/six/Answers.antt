@@ -1,4 +1,4 @@
-use Rattle.std.proofs.Common.{◌≡◌, ℕ, ◌+◌, ◌%◌, List, [], ◌∷◌, ◌∙◌}
+use Rattle.std.proofs.Common.{◌≡◌, ℕ, ◌+◌, ◌%◌, [], ◌∷◌, ◌∙◌}
 use Rattle.job.specs.Text.{cells, place}
 use Rattle.job.proofs.Widths.{cells_wide}
 use Rattle.job.proofs.text.six.Goals as goal
