@@ -34,6 +34,11 @@ APART = {
     "End-misplaced": "IsEndMisplaced",
     "Left-behind": "IsLeftBehind",
     "Left-standing": "IsLeftStanding",
+    # a function that an import calls as a type is called
+    "Tried-of": "tried_of",
+    # the scripts gave these imports an ending that says nothing
+    "step_of_lem": "scene_step",
+    "out_of_lem": "scene_out",
 }
 
 
@@ -49,7 +54,7 @@ def respelled(name):
     if name in APART:
         return APART[name]
     if name[0].isupper():
-        return "".join(part[:1].upper() + part[1:] for part in name.split("-"))
+        return "".join(part[:1].upper() + part[1:] for part in re.split("[-_]", name))
     name = re.sub(r"(?<=[a-z0-9])([A-Z])", lambda m: "_" + m.group(1).lower(), name)
     return name.replace("-", "_")
 
@@ -105,8 +110,8 @@ def respell(path, names):
         word = match.group(0)
         if word in keep:
             return word
-        if word in names:
-            return names[word][0]
+        if word in names or word in APART:
+            return respelled(word)
         return respelled(word) if is_own(path) and "-" in word else word
 
     new = "\n".join(

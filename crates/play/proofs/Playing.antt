@@ -98,15 +98,15 @@ module _ {m : Meaning} {s : SiteSettings} {plan : List Action} {targets : ℕ �
   NoneStrands k = (j c : ℕ) → j < k → Strands m plan j c → ⊥
 
   -- what comes of the actions from k on, from whatever site shows those above
-  abbrev Goes_on : ℕ → Type 0
-  Goes_on k = (now : ℕ) (xs : Columns) (ms : List ℕ) → Shows m plan k now xs → Marked xs ms → NoneStrands k
+  abbrev GoesOn : ℕ → Type 0
+  GoesOn k = (now : ℕ) (xs : Columns) (ms : List ℕ) → Shows m plan k now xs → Marked xs ms → NoneStrands k
       → Comes m s plan targets (play (drop k plan) now (site m s xs ms))
 
   -- what play makes of an answer o and a site v, next being the site after the call
   abbrev Then : ℕ → Scene → Option Told → Scene → Type 0
   Then k v o next = Comes m s plan targets (unless o (line plan k).line v (play (drop (suc k) plan) (line plan k).start next))
 
-  due : (k : ℕ) (xs : Columns) (ms : List ℕ) → k < length plan → Shows m plan k (line plan k).start xs → Marked xs ms → NoneStrands k → Goes_on (suc k)
+  due : (k : ℕ) (xs : Columns) (ms : List ℕ) → k < length plan → Shows m plan k (line plan k).start xs → Marked xs ms → NoneStrands k → GoesOn (suc k)
       → Then k (site m s xs ms) (refusal_of (site m s xs ms) (call_of (line plan k))) (called (site m s xs ms) (call_of (line plan k)))
   due k xs ms l sh mk none rest = go (answered m s (line plan k) xs ms ob.law mk here)
     where
@@ -137,7 +137,7 @@ module _ {m : Meaning} {s : SiteSettings} {plan : List Action} {targets : ℕ �
             lowest = λ d h. f.lowest d (stranded_here ob sh mk refl d h);
           }) none (described ob sh mk))
 
-  pub from_line : (d k : ℕ) → d + k ≡ length plan → Goes_on k
+  pub from_line : (d k : ℕ) → d + k ≡ length plan → GoesOn k
   from_line zero k e now xs ms sh mk none =
       let no_more : drop k plan ≡ [] = drop_all k plan (omega arith) in
       let all : k ≡ length plan = omega arith in

@@ -10,8 +10,12 @@ use crate::{Durations, Refusal, Rule, Settings, Work};
 
 // Durations of entry, leave, move with a block, move without, pick up and deliver.
 fn durations(entry: u8, leave: u8, loaded: u8, empty: u8, pickup: u8, deliver: u8) -> Durations
-    requires le { (1 ≤ entry) × ((1 ≤ leave) × (1 ≤ loaded)) }
-    requires le_empty { (1 ≤ empty) × ((1 ≤ pickup) × (1 ≤ deliver)) }
+    requires entry_lasts { 1 ≤ entry }
+    requires leave_lasts { 1 ≤ leave }
+    requires loaded_lasts { 1 ≤ loaded }
+    requires empty_lasts { 1 ≤ empty }
+    requires pickup_lasts { 1 ≤ pickup }
+    requires deliver_lasts { 1 ≤ deliver }
     ensures { times_of result ≡ times entry leave loaded empty pickup deliver }
 {
     Durations {

@@ -13,7 +13,7 @@ use Rattle.gate.specs.declared.column.State.TheVariants.{Free, Standing, Busy}
 use Rattle.gate.specs.Column.{column, carries, rest, stays, built, next, next_height}
 use Rattle.gate.specs.Scene.{Columns, Scene, at, height_at, state_at, begin, tick_all}
 use Rattle.gate.specs.Gate.{granted, settle}
-use Rattle.gate.specs.Gate.{step as step_of_lem}
+use Rattle.gate.specs.Gate.{step as scene_step}
 use Rattle.undertaking.specs.Runs.{ticks, run as run_of}
 use Rattle.undertaking.specs.Lasting.{Is, UnderWay, Ended, About, Unasked, Builds, lasting, Lasts}
 use Rattle.undertaking.proofs.Plain.{Proper, answer, step, run}
@@ -101,7 +101,7 @@ module _ (m : Meaning) (s : SiteSettings) (law : Lawful m) (ok : Proper s) where
     ended Recall e ks l = tt
 
     -- the site after the grant and more calls, by its columns
-    same_run : (a : Call) → answer m s xs a ≡ None → (ks : List Call) → (run_of (step_of_lem (scene m s xs) a) ks).columns ≡ run m s (granted s xs a) ks
+    same_run : (a : Call) → answer m s xs a ≡ None → (ks : List Call) → (run_of (scene_step (scene m s xs) a) ks).columns ≡ run m s (granted s xs a) ks
     same_run a e ks =
         ap (λ v. (run_of v ks).columns) (step_scene m s law ok xs k a ∙ ap (λ o. scene m s (settle o (granted s xs a) xs)) e)
         ∙ ap (λ (v : Scene). v.columns) (run_scene m s law ok ks (granted s xs a) (after a e))
@@ -158,10 +158,10 @@ module _ (m : Meaning) (s : SiteSettings) (law : Lawful m) (ok : Proper s) where
         go (Busy p (suc zero)) i h = last p i h
         go (Busy p (suc (suc n))) i h = inl h
 
-    calm_height : (a : Call) → NoTick a → (c : ℕ) → height_at (step_of_lem (scene m s xs) a).columns c ≡ height_at xs c
+    calm_height : (a : Call) → NoTick a → (c : ℕ) → height_at (scene_step (scene m s xs) a).columns c ≡ height_at xs c
     calm_height a t c = ap (λ (v : Scene). height_at v.columns c) (step_scene m s law ok xs k a) ∙ (step_calm m s law ok xs k a t).heights c
 
-    builds : (a : Call) (c : ℕ) → (height_at (step_of_lem (scene m s xs) a).columns c ≡ height_at xs c) ⊎ Builds (scene m s xs) c a
+    builds : (a : Call) (c : ℕ) → (height_at (scene_step (scene m s xs) a).columns c ≡ height_at xs c) ⊎ Builds (scene m s xs) c a
     builds (Enter e b) c = inl (calm_height (Enter e b) tt c)
     builds (Move e d) c = inl (calm_height (Move e d) tt c)
     builds (Lay e d) c = inl (calm_height (Lay e d) tt c)

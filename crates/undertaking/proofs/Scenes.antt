@@ -17,9 +17,9 @@ use Rattle.gate.specs.declared.column.Part.{Part}
 use Rattle.gate.specs.declared.column.Part.TheVariants.{Departing, Laying, Lifting}
 use Rattle.gate.specs.Column.{fresh, facing, changes, changes_in, carries, ticked}
 use Rattle.gate.specs.Scene.{Columns, Scene, state_at, begin, tick_all, lying, one_if, mark_of, renewed_marks, opened}
-use Rattle.gate.specs.Scene.{relief as relief_of, tried as TriedOf}
+use Rattle.gate.specs.Scene.{relief as relief_of, tried as tried_of}
 use Rattle.gate.specs.Gate.{refusal, granted, granted_marks, grant, settle}
-use Rattle.gate.specs.Gate.{tests as gate_tests, step as step_of_lem}
+use Rattle.gate.specs.Gate.{tests as gate_tests, step as scene_step}
 use Rattle.gate.specs.Recall.{recall, recalled as gate_recalled}
 use Rattle.undertaking.specs.Runs.{run as run_of, after_ticks as after_ticks_of, tally as tally_of}
 use Rattle.undertaking.specs.Obeying.{call_of, Rested as RestedOf, Obeyed as ObeyedOf}
@@ -92,7 +92,7 @@ module _ (m : Meaning) (s : SiteSettings) (law : Lawful m) (ok : Proper s) (xs :
   pub lies : relief_of (scene m s xs) ≡ relief xs
   lies = ap (lying xs) (λ i c. marks_say c i)
 
-  lies_tried : TriedOf (scene m s xs) ≡ tried xs
+  lies_tried : tried_of (scene m s xs) ≡ tried xs
   lies_tried = λ i d. lying xs (λ c. eqb c d || marks_say c i)
 
   pub same_refusal : (a : Call) → refusal (scene m s xs) a ≡ answer m s xs a
@@ -124,7 +124,7 @@ module _ (m : Meaning) (s : SiteSettings) (law : Lawful m) (ok : Proper s) (xs :
   same_marks Tick e = marks_renewed xs (tick_all xs) m.columns (omega (arith, k.long)) (omega (arith, k.long, length-map xs ticked)) law.few
   same_marks Recall e = refl
 
-  pub step_scene : (a : Call) → step_of_lem (scene m s xs) a ≡ scene m s (step m s xs a)
+  pub step_scene : (a : Call) → scene_step (scene m s xs) a ≡ scene m s (step m s xs a)
   step_scene a = ap (λ o. settle o (grant (scene m s xs) a) (scene m s xs)) (same_refusal a) ∙ go (answer m s xs a) refl
     where
       go : (o : Option Told) → answer m s xs a ≡ o → settle o (grant (scene m s xs) a) (scene m s xs) ≡ scene m s (settle o (granted s xs a) xs)
@@ -146,7 +146,7 @@ module _ (m : Meaning) (s : SiteSettings) (law : Lawful m) (ok : Proper s) where
   tally_scene f g same (a ∷ ks) xs k =
       let here : settle (refusal (scene m s xs) a) (f (scene m s xs) a) 0 ≡ settle (answer m s xs a) (g xs a) 0 =
       ap (λ o. settle o (f (scene m s xs) a) 0) (same_refusal m s law ok xs k a) ∙ ap (λ n. settle (answer m s xs a) n 0) (same xs a) in
-      let rest : tally_of f (step_of_lem (scene m s xs) a) ks ≡ tally g m s (step m s xs a) ks =
+      let rest : tally_of f (scene_step (scene m s xs) a) ks ≡ tally g m s (step m s xs a) ks =
       ap (λ v. tally_of f v ks) (step_scene m s law ok xs k a) ∙ tally_scene f g same ks (step m s xs a) (kept_step m s law ok xs k a) in
       omega arith
 

@@ -8,11 +8,11 @@ use Rattle.gate.specs.declared.call.Call.TheVariants.{Enter, Move, Lay, Lift, Le
 use Rattle.gate.specs.Scene.{Columns, Scene, blocks_standing, blocks_carried, opened}
 use Rattle.gate.specs.Scene.{relief as relief_of}
 use Rattle.gate.specs.Gate.{refusal}
-use Rattle.gate.specs.Gate.{step as step_of_lem}
+use Rattle.gate.specs.Gate.{step as scene_step}
 use Rattle.gate.specs.Recall.{recall, Homeward}
 use Rattle.gate.proofs.Deciding.{performed}
 use Rattle.gate.proofs.Recalling.{recall_rightly}
-use Rattle.undertaking.specs.Runs.{reply, replies, Relates, Does, brought_by as brought_of, out_by as out_of_lem, toil_of as toiled, building_of as built_by}
+use Rattle.undertaking.specs.Runs.{reply, replies, Relates, Does, brought_by as brought_of, out_by as scene_out, toil_of as toiled, building_of as built_by}
 use Rattle.undertaking.specs.Runs.{run as run_of, after_ticks as after_ticks_of, tally as tally_of}
 use Rattle.undertaking.specs.Obeying.{Empty, Quiet, Holds, Toll, Obeyed as ObeyedOf}
 use Rattle.undertaking.specs.Lasting.{Lasts}
@@ -39,20 +39,20 @@ module _ (m : Meaning) (s : SiteSettings) (law : Lawful m) (ok : Proper s) where
   homeward : (xs : Columns) → Kept m s xs → Homeward (scene m s xs)
   homeward xs k c l r = let w = k.ways c r in (w.0, home_of xs k w.1)
 
-  pub relates : (xs : Columns) → Kept m s xs → (a : Call) → Relates (scene m s xs) a (reply (scene m s xs) a) (step_of_lem (scene m s xs) a)
-  relates xs k (Enter c b) = let v = scene m s xs in (refusal v (Enter c b), refl, performed v law (Enter c b) (refusal v (Enter c b)) (step_of_lem v (Enter c b)) refl refl)
-  relates xs k (Move c d) = let v = scene m s xs in (refusal v (Move c d), refl, performed v law (Move c d) (refusal v (Move c d)) (step_of_lem v (Move c d)) refl refl)
-  relates xs k (Lay c d) = let v = scene m s xs in (refusal v (Lay c d), refl, performed v law (Lay c d) (refusal v (Lay c d)) (step_of_lem v (Lay c d)) refl refl)
-  relates xs k (Lift c d) = let v = scene m s xs in (refusal v (Lift c d), refl, performed v law (Lift c d) (refusal v (Lift c d)) (step_of_lem v (Lift c d)) refl refl)
-  relates xs k (Leave c) = let v = scene m s xs in (refusal v (Leave c), refl, performed v law (Leave c) (refusal v (Leave c)) (step_of_lem v (Leave c)) refl refl)
-  relates xs k Tick = let v = scene m s xs in (None, refl, performed v law Tick None (step_of_lem v Tick) refl refl)
+  pub relates : (xs : Columns) → Kept m s xs → (a : Call) → Relates (scene m s xs) a (reply (scene m s xs) a) (scene_step (scene m s xs) a)
+  relates xs k (Enter c b) = let v = scene m s xs in (refusal v (Enter c b), refl, performed v law (Enter c b) (refusal v (Enter c b)) (scene_step v (Enter c b)) refl refl)
+  relates xs k (Move c d) = let v = scene m s xs in (refusal v (Move c d), refl, performed v law (Move c d) (refusal v (Move c d)) (scene_step v (Move c d)) refl refl)
+  relates xs k (Lay c d) = let v = scene m s xs in (refusal v (Lay c d), refl, performed v law (Lay c d) (refusal v (Lay c d)) (scene_step v (Lay c d)) refl refl)
+  relates xs k (Lift c d) = let v = scene m s xs in (refusal v (Lift c d), refl, performed v law (Lift c d) (refusal v (Lift c d)) (scene_step v (Lift c d)) refl refl)
+  relates xs k (Leave c) = let v = scene m s xs in (refusal v (Leave c), refl, performed v law (Leave c) (refusal v (Leave c)) (scene_step v (Leave c)) refl refl)
+  relates xs k Tick = let v = scene m s xs in (None, refl, performed v law Tick None (scene_step v Tick) refl refl)
   relates xs k Recall = let v = scene m s xs in (recall v, refl, recall_rightly v law (homeward xs k), refl)
 
   does : (ks : List Call) (xs : Columns) → Kept m s xs → Does (scene m s xs) ks (replies (scene m s xs) ks) (run_of (scene m s xs) ks)
   does [] xs k = refl
   does (a ∷ ks) xs k =
       let P : Scene → Type 0 = λ v. Does v ks (replies v ks) (run_of v ks) in
-      (step_of_lem (scene m s xs) a, relates xs k a, subst P (sym (step_scene m s law ok xs k a)) (does ks (step m s xs a) (kept_step m s law ok xs k a)))
+      (scene_step (scene m s xs) a, relates xs k a, subst P (sym (step_scene m s law ok xs k a)) (does ks (step m s xs a) (kept_step m s law ok xs k a)))
 
   bounds : (xs : Columns) → Kept m s xs → Bounds (scene m s xs)
   bounds xs k =
@@ -99,7 +99,7 @@ module _ (m : Meaning) (s : SiteSettings) (law : Lawful m) (ok : Proper s) where
   brought_same xs Tick = refl
   brought_same xs Recall = refl
 
-  out_same : (xs : Columns) (a : Call) → out_of_lem (scene m s xs) a ≡ out_by m xs a
+  out_same : (xs : Columns) (a : Call) → scene_out (scene m s xs) a ≡ out_by m xs a
   out_same xs (Enter c b) = refl
   out_same xs (Move c d) = refl
   out_same xs (Lay c d) = refl
@@ -175,7 +175,7 @@ module _ (m : Meaning) (s : SiteSettings) (law : Lawful m) (ok : Proper s) where
           blocks = omega (
             arith,
             counted brought_of brought_by brought_same,
-            counted out_of_lem (out_by m) out_same,
+            counted scene_out (out_by m) out_same,
             blocks m s law ok (kept_opening m s ok) ks,
             ap (λ (v : Scene). blocks_standing m v.columns) is,
             ap (λ (v : Scene). blocks_carried m v.columns) is,
