@@ -1,19 +1,32 @@
 -- The square and the listed ground obey what every ground obeys. Assumes nothing.
-use Rattle.std.specs.Prelude.{◌≡◌, ℕ, ◌*◌, ◌/◌, ◌%◌, ◌<◌, ◌≤◌, Bool, true, false, cond, List, [], length, nat_lt, slice_index_or}
-use Rattle.std.proofs.Common.{sym, ◌∙◌, mul-le-mul, mul-pos, arith}
-use Rattle.std.proofs.lemmas.Bool.{and_from, and_parts, and_right, ltb-true}
-use Rattle.std.proofs.lemmas.Bool.Decides.{nat_tests}
+use Rattle.std.specs.Prelude.{◌≡◌, ℕ, ◌+◌, ◌*◌, ◌/◌, ◌%◌, ◌<◌, ◌≤◌, Bool, true, false, cond, ◌&&◌, List, [], length, ◌==◌, nat_lt, slice_index_or}
+use Rattle.std.proofs.Common.{sym, ◌∙◌, ⊎_elim, mul-le-mul, mul-pos, arith}
+use Rattle.std.proofs.Math.Bool.{or_comm}
+use Rattle.std.proofs.lemmas.Bool.{and_from, and_parts, and_right, cases_eq, eq-eqb, ltb-true, ne_eqb, or_from}
 use Rattle.std.proofs.lemmas.List.{length-take}
 use Rattle.ground.specs.Meaning.{Lawful, neighbours}
-use Rattle.ground.specs.Squared.{near, squared}
+use Rattle.ground.specs.Squared.{beside, near, squared}
 use Rattle.ground.specs.Table.{entries, in_row, no_row, tabled}
 use Rattle.ground.specs.declared.row.Row.{Row}
 
+equal_back : (a b : ℕ) → (a == b) ≡ (b == a)
+equal_back a b =
+    ⊎_elim (λ e. eq-eqb a b e ∙ sym (eq-eqb b a (sym e))) (λ n. ne_eqb a b n ∙ sym (ne_eqb b a (λ e. n (sym e)))) (cases_eq a b)
+
 near_back : (i j k l : ℕ) → near i j k l ≡ near k l i j
-near_back i j k l = grind (arith, nat_tests)
+near_back i j k l =
+    let across = equal_back i k in
+    let along = equal_back j l in
+    let beside_along = or_comm (j + 1 == l) (l + 1 == j) in
+    let beside_across = or_comm (i + 1 == k) (k + 1 == i) in
+    cc
+
+beside_self : (a : ℕ) → beside a a ≡ false
+beside_self a = let e = ne_eqb (a + 1) a (λ q. omega arith) in or_from (a + 1 == a) (a + 1 == a) e e
 
 near_self : (i j : ℕ) → near i j i j ≡ false
-near_self i j = grind (arith, nat_tests)
+near_self i j =
+    or_from (i == i && beside j j) (j == j && beside i i) (and_right (i == i) (beside j j) (beside_self j)) (and_right (j == j) (beside i i) (beside_self i))
 
 pub square_lawful : (x y : ℕ) → 1 ≤ x → x ≤ 16 → 1 ≤ y → y ≤ 16 → Lawful (squared x y)
 square_lawful x y x_low x_high y_low y_high = record {

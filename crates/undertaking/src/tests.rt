@@ -89,11 +89,9 @@ fn leave(column: u16) -> Call {
     Call::Leave { column }
 }
 
-// Each refusal of each call, a move over two heights, the hill from which a lift would strand a robot, and the way home.
-#[test]
-fn on_a_square(rt: HostRuntime) -> Result<(), Fail> {
-    let mut site = Site::open(Plot::new(rt.alloc())?, square(3, 5)?, settings(3, 3, 0)?);
-    let rows = [
+// Each refusal of each call, with robots at three border columns.
+fn refused_calls() -> [Row; 33] {
+    [
         Row(Call::Recall, 32, 0, 0),
         Row(enter(15, false), 23, 0, 0),
         Row(enter(6, false), 26, 0, 0),
@@ -127,6 +125,12 @@ fn on_a_square(rt: HostRuntime) -> Result<(), Fail> {
         Row(leave(6), 26, 0, 0),
         Row(go(0, 1), 0, 0, 1),
         Row(lift(1, 6), 27, 0, 0),
+    ]
+}
+
+// A lay and a lift that run, one after the other, and what is refused meanwhile.
+fn running_calls() -> [Row; 13] {
+    [
         Row(go(6, 7), 0, 0, 1),
         Row(lay(5, 6), 0, 0, 0),
         Row(Call::Recall, 31, 0, 1),
@@ -140,6 +144,12 @@ fn on_a_square(rt: HostRuntime) -> Result<(), Fail> {
         Row(leave(2), 0, 0, 1),
         Row(leave(1), 0, 0, 1),
         Row(leave(5), 0, 0, 1),
+    ]
+}
+
+// A move over two heights, and the hill from which a lift would strand a robot.
+fn hill() -> [Row; 17] {
+    [
         Row(enter(2, true), 0, 0, 1),
         Row(lay(2, 7), 0, 0, 1),
         Row(leave(2), 0, 0, 1),
@@ -157,8 +167,16 @@ fn on_a_square(rt: HostRuntime) -> Result<(), Fail> {
         Row(go(6, 7), 0, 0, 1),
         Row(enter(5, false), 0, 0, 1),
         Row(lift(5, 6), 30, 7, 0),
-    ];
-    follow(&rt, &mut site, &rows);
+    ]
+}
+
+// Each refusal of each call, and the way home from a hill.
+#[test]
+fn on_a_square(rt: HostRuntime) -> Result<(), Fail> {
+    let mut site = Site::open(Plot::new(rt.alloc())?, square(3, 5)?, settings(3, 3, 0)?);
+    follow(&rt, &mut site, &refused_calls());
+    follow(&rt, &mut site, &running_calls());
+    follow(&rt, &mut site, &hill());
     assert_eq!(rt; site.look(6).height, 1);
     assert_eq!(rt; site.look(7).height, 2);
     assert_eq!(rt; site.blocks_standing(), 3);
