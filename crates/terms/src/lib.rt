@@ -4,10 +4,12 @@
 mod durations;
 mod making;
 mod refusal;
+mod reserve;
 mod settings;
 mod work;
 
 use durations::Durations;
 pub use refusal::{Layer, Refusal, Rule};
+pub use reserve::Reserve;
 pub use settings::Settings;
 pub use work::Work;
