@@ -105,15 +105,11 @@ impl Ground for Listed {
 
     ghost meaning = { listed_of };
 
-    ghost most = { 6 };
+    ghost MOST_LINKS = { 6 };
 
     ghost lawful = { λ g. listed_lawful g.columns g.rows g.columns_low g.columns_high g.within g.both_ways g.no_loop };
 
     ghost few = { λ g. listed_few g.columns g.rows g.rows_short g.rows_tell };
-
-    fn limit() -> usize {
-        Self::MOST_LINKS
-    }
 
     fn columns(&self) -> u16 {
         self.columns

@@ -95,15 +95,11 @@ impl Ground for Square {
 
     ghost meaning = { square_of };
 
-    ghost most = { 4 };
+    ghost MOST_LINKS = { 4 };
 
     ghost lawful = { λ s. square_lawful s.x s.y s.x_low s.x_high s.y_low s.y_high };
 
     ghost few = { λ s c. sides_few s.x s.y s.y_low c };
-
-    fn limit() -> usize {
-        Self::MOST_LINKS
-    }
 
     fn columns(&self) -> u16 {
         self.x as u16 * self.y as u16
