@@ -9,6 +9,7 @@ mod linking;
 mod listed;
 mod listed_ground;
 mod neighbours;
+mod places;
 mod row;
 mod square;
 mod square_ground;
