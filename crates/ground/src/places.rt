@@ -1,6 +1,6 @@
 // Places for links, some of them empty.
-ghost use Rattle.std.specs.Prelude.{◌≡◌, length};
-ghost use Rattle.std.specs.List.{slice_get, filter_map};
+ghost use Rattle.std.specs.Prelude.{◌≡◌, length, is_none};
+ghost use Rattle.std.specs.List.{slice_get, filter_map, position};
 
 // How many places are filled.
 pub(crate) fn count(places: &[Option<u16>]) -> usize
@@ -14,4 +14,11 @@ pub(crate) fn pick(places: &[Option<u16>], k: usize) -> Option<u16>
     ensures { result ≡ slice_get (filter_map (λ p. p) places.now) k }
 {
     places.iter().filter_map(|place| *place).nth(k)
+}
+
+// The first place that is empty, if there is one.
+pub(crate) fn first_empty(places: &[Option<u16>]) -> Option<usize>
+    ensures { result ≡ position (λ p. is_none p) places.now }
+{
+    places.iter().position(|place| place.is_none())
 }
