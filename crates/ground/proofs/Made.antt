@@ -1,5 +1,5 @@
 -- What stands in an array that is made by calls, one for each place. Assumes nothing.
-use Rattle.std.proofs.Common.{◌≡◌, ℕ, zero, suc, ◌+◌, ◌<◌, ◌≤◌, List, get_or, refl, sym, subst, ap, ◌∙◌, ⊎_elim, arith}
+use Rattle.std.proofs.Common.{◌≡◌, ℕ, zero, suc, ◌+◌, ◌<◌, ◌≤◌, List, subst, ⊎_elim, arith}
 use Rattle.std.specs.Array.{IsElementAt, IsFromFnResultFrom}
 use Rattle.std.specs.Fn.{Called}
 use Rattle.std.proofs.lemmas.Bool.{cases_eq}

@@ -1,10 +1,10 @@
 -- The places that are filled are those that a filter keeps. Assumes nothing.
-use Rattle.std.proofs.Common.{◌≡◌, ℕ, ◌<◌, ◌≤◌, ltb, List, [], ◌∷◌, length, get_or, Some, None, Option, refl, sym, ap, ◌∙◌}
-use Rattle.std.specs.List.{filter_map, slice_get}
+use Rattle.std.proofs.Common.{◌≡◌, ℕ, ◌<◌, ◌≤◌, ltb, List, [], ◌∷◌, get_or, Some, None, Option, refl, sym, ap, ◌∙◌}
+use Rattle.std.specs.List.{filter_map}
 use Rattle.std.specs.Option.{option_map}
 use Rattle.std.proofs.lemmas.Bool.{cond-false, cond-true, le-ltb, lt-ltb}
 use Rattle.ground.specs.Meaning.{neighbours}
-use Rattle.ground.specs.Members.{onto, somes}
+use Rattle.ground.specs.Members.{somes}
 use Rattle.ground.specs.Table.{entries, in_row, no_row, tabled}
 use Rattle.ground.specs.declared.row.Row.{Row}
 

@@ -2,7 +2,6 @@
 use Rattle.std.proofs.Common.{rules, eqb, ◌∙◌}
 use Rattle.std.proofs.lemmas.Iterator.Consumers.{YieldsList-from_first}
 use Rattle.std.proofs.lemmas.Iterator.Search.{any_from_yields_List}
-use Rattle.ground.specs.Meaning.{neighbours}
 use Rattle.ground.specs.Walk.{still_linked}
 use Rattle.ground.proofs.Among.{linked_among}
 use Rattle.ground.proofs.linking.is_linked.Goals as goal

@@ -1,6 +1,5 @@
 -- Each row has the border byte of its column, and no links.
 use Rattle.std.proofs.Common.{rules, refl, arith}
-use Rattle.std.proofs.lemmas.Option.{get_or_from_slice_get}
 use Rattle.ground.specs.Table.{no_row}
 use Rattle.ground.proofs.Filling.{bare, filled_none}
 use Rattle.ground.proofs.Made.{made_at}

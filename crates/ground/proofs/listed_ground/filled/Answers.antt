@@ -1,5 +1,5 @@
 -- One link more is kept in both rows, or a full row names a column with a seventh link.
-use Rattle.std.proofs.Common.{rules, ◌<◌, length, get_or, set, sym, ap, ◌∙◌, arith}
+use Rattle.std.proofs.Common.{rules, ◌<◌, length, get_or, set, ap, arith}
 use Rattle.std.proofs.lemmas.List.{get_or-set_other}
 use Rattle.ground.specs.Table.{entries, no_row}
 use Rattle.ground.proofs.Crowds.{crowd_higher, crowd_lower, filled_links, had_room, was_full}

@@ -1,5 +1,5 @@
 -- Where the lengths are right, the bytes decide.
-use Rattle.std.proofs.Common.{rules, leb, ◌≤◌, ◌∙◌}
+use Rattle.std.proofs.Common.{rules, leb, ◌∙◌}
 use Rattle.std.proofs.lemmas.Iterator.{YieldsList-from_slice}
 use Rattle.std.proofs.lemmas.Iterator.Search.{all_from_yields_List}
 use Rattle.ground.proofs.Scans.{border_fits_yes}

@@ -1,6 +1,5 @@
 -- A filter passes over the places that are empty.
 use Rattle.std.proofs.Common.{rules, Option, ℕ, sym, ap, ◌∙◌}
-use Rattle.std.specs.List.{slice_get}
 use Rattle.std.specs.Slice.Iter.{iter_rest}
 use Rattle.std.specs.Iterator.Adapters.{filter_map_source}
 use Rattle.std.proofs.lemmas.Iterator.{YieldsList-from_slice}

@@ -1,5 +1,5 @@
 -- The tests name the first reason to refuse; where there is none, the rows mean what the lists say.
-use Rattle.std.proofs.Common.{rules, ◌≡◌, Some, None, sym, ap, ◌∙◌, subst, arith}
+use Rattle.std.proofs.Common.{rules, ◌≡◌, Some, sym, ap, ◌∙◌, subst, arith}
 use Rattle.terms.specs.Refusals.{Settles, refusal_in}
 use Rattle.std.specs.List.{flat_map}
 use Rattle.ground.specs.Listing.{listing_reasons, listing_refusal}

@@ -1,7 +1,6 @@
 -- A row tells the columns linked with its own one by one.
-use Rattle.std.proofs.Common.{rules, ap, ◌∙◌}
-use Rattle.std.specs.List.{slice_get}
-use Rattle.ground.proofs.Picks.{told_inside, told_outside}
+use Rattle.std.proofs.Common.{rules}
+use Rattle.ground.proofs.Picks.{told_inside}
 use Rattle.ground.proofs.listed_ground.ListedGround.link.Goals as goal
 
 pub returns : goal.returns

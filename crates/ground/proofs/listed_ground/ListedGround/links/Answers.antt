@@ -1,5 +1,5 @@
 -- A row tells how many columns are linked with its own.
-use Rattle.std.proofs.Common.{rules, length, sym, ap, ◌∙◌}
+use Rattle.std.proofs.Common.{rules}
 use Rattle.ground.proofs.Picks.{told_inside, told_outside}
 use Rattle.ground.proofs.listed_ground.ListedGround.links.Goals as goal
 
