@@ -1,13 +1,10 @@
 -- A search along the links of a column is a search over all columns that are linked with it. Assumes nothing.
-use Rattle.std.proofs.Common.{◌≡◌, ℕ, zero, suc, ◌+◌, ◌≤◌, Bool, true, false, cond, ◌&&◌, List, [], ◌∷◌, ◌++◌, length, get_or, drop, Some, None, filter, Option, sym, refl, ap, ◌∙◌, ⊎_elim, add-one, arith}
+use Rattle.std.proofs.Common.{◌≡◌, ℕ, zero, suc, ◌+◌, Bool, true, false, cond, ◌&&◌, List, [], ◌∷◌, ◌++◌, Some, filter, sym, refl, ap, ◌∙◌, add-one, arith}
 use Rattle.std.specs.List.{find, range_with_len}
 use Rattle.std.proofs.lemmas.List.FromFn.{map-range_with_len_more}
-use Rattle.std.proofs.lemmas.List.{drop_all, drop_more, map-id}
-use Rattle.std.proofs.lemmas.Option.{slice_get-get_or as nth_get_d, slice_get_past}
-use Rattle.std.proofs.lemmas.Bool.{cases_lt}
+use Rattle.std.proofs.lemmas.List.{map-id}
 use Rattle.ground.specs.Meaning.{Meaning, neighbours}
 use Rattle.ways.specs.Table.{first_below, or_at}
-use Rattle.ways.proofs.Firsts.{none≢some}
 
 in_kept : (p q : ℕ → Bool) (xs : List ℕ) → find q (filter p xs) ≡ find (λ d. p d && q d) xs
 in_kept p q [] = refl

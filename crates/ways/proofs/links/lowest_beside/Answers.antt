@@ -1,6 +1,5 @@
 -- The first of the neighbours that passes is the lowest column that is linked and passes.
-use Rattle.std.proofs.Common.{rules, ℕ, Option, ◌≡◌, sym, ◌∙◌}
-use Rattle.std.specs.Option.{option_map}
+use Rattle.std.proofs.Common.{rules, sym, ◌∙◌}
 use Rattle.std.proofs.lemmas.Iterator.Consumers.{YieldsList-from_first}
 use Rattle.std.proofs.lemmas.Iterator.Search.{find_from_yields_List}
 use Rattle.ground.specs.Walk.{still_linked}

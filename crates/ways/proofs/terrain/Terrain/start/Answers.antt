@@ -1,5 +1,5 @@
 -- Each place has the first label of its column, and no column past the places is at the border.
-use Rattle.std.proofs.Common.{rules, refl, sym, ap, ◌∙◌, ⊎_elim, None, arith}
+use Rattle.std.proofs.Common.{rules, refl, sym, ◌∙◌, ⊎_elim, None, arith}
 use Rattle.std.proofs.lemmas.Bool.{cases_lt}
 use Rattle.std.proofs.lemmas.List.{get_or_past}
 use Rattle.ground.proofs.Made.{made_at}
