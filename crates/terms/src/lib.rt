@@ -5,6 +5,7 @@ mod durations;
 mod making;
 mod refusal;
 mod reserve;
+mod reserving;
 mod settings;
 mod work;
 
