@@ -1,5 +1,5 @@
 -- A field is read as n exactly where it shows n: spaces, and then n in decimal. Assumes nothing.
-use Rattle.std.proofs.Common.{◌≡◌, ℕ, zero, suc, ◌+◌, ◌-◌, ◌*◌, ◌^◌, ◌<◌, ◌≤◌, Bool, true, false, cond, ◌&&◌, eqb, leb, List, [], ◌∷◌, ◌++◌, length, get_or, replicate, Some, None, decimal, sym, refl, ap, ◌∙◌, ⊎_elim, arith, rules}
+use Rattle.std.proofs.Common.{◌≡◌, ℕ, zero, suc, ◌+◌, ◌-◌, ◌*◌, ◌^◌, ◌<◌, ◌≤◌, Bool, true, false, cond, ◌&&◌, eqb, leb, List, [], ◌∷◌, ◌++◌, length, get_or, replicate, Some, None, Option, decimal, sym, refl, ap, ◌∙◌, ⊎_elim, arith, rules}
 use Rattle.std.specs.Str.{all_ascii_digits}
 use Rattle.std.proofs.lemmas.Fmt.{decimal_digit, decimal_nonempty, decimal-digits_value, digits_decimal, first_decimal, digits_value-decimal}
 use Rattle.std.proofs.lemmas.Str.Parse.{IsNumeralModel, numerals_by_fold, tells_all_ascii_digits, digits_value_short}
@@ -76,7 +76,7 @@ first_digit n small =
     (λ more. let f = first_decimal n (omega arith) (omega arith) in (omega arith, λ e. absurd (omega arith)))
     (cases_lt n 10)
 
-pub number_shows : (bs : List ℕ) (n : ℕ) → number_in bs ≡ Some n → Shows bs n
+number_shows : (bs : List ℕ) (n : ℕ) → number_in bs ≡ Some n → Shows bs n
 number_shows bs n e = go (leb (length bs) 9) refl e
   where
     go : (t : Bool) → t ≡ leb (length bs) 9 → cond t (plain (unspaced bs)) None ≡ Some n → Shows bs n
@@ -91,7 +91,7 @@ number_shows bs n e = go (leb (length bs) 9) refl e
         let s = split bs in
         record { narrow = narrow; small = omega (arith, v.1); spaces = s.0; text = s.1 ∙ ap (λ (t : List ℕ). replicate s.0 32 ++ t) (sym d ∙ ap decimal v.1) }
 
-pub shows_number : (bs : List ℕ) (n : ℕ) → Shows bs n → number_in bs ≡ Some n
+shows_number : (bs : List ℕ) (n : ℕ) → Shows bs n → number_in bs ≡ Some n
 shows_number bs n w =
     let small : n < 10 ^ 9 = w.small in
     let f = first_digit n small in
@@ -100,3 +100,7 @@ shows_number bs n w =
     digits_all 0 (decimal n) ∙ ap (λ (t : Bool). cond t (Some (read_on 0 (decimal n))) None) (digits_decimal own n (omega arith)) ∙ ap Some (digits_value-decimal own n (omega arith)) in
     ap (λ (t : Bool). cond t (plain (unspaced bs)) None) (le-leb (length bs) 9 w.narrow)
     ∙ ap plain e ∙ joins (decimal n) (decimal_nonempty n (omega arith)) f.1 ∙ all
+
+-- so does what is read of a field, whether a number or not
+pub numbers_show : (bs : List ℕ) (r : Option ℕ) → r ≡ number_in bs → (n : ℕ) → (r ≡ Some n → Shows bs n) × (Shows bs n → r ≡ Some n)
+numbers_show bs r e n = (λ h. number_shows bs n (sym e ∙ h), λ w. e ∙ shows_number bs n w)

@@ -1,5 +1,6 @@
 -- Fields: decimal numbers, letters and marks, justified to the right and filled with spaces. Assumes nothing.
-use Rattle.std.specs.Prelude.{◌≡◌, ℕ, ◌+◌, ◌-◌, ◌*◌, ◌^◌, ◌<◌, ◌≤◌, Bool, true, false, cond, ◌&&◌, List, [], ◌∷◌, ◌++◌, length, replicate, Some, None, decimal, Option, ◌==◌, nat_le}
+use Rattle.std.specs.Prelude.{◌≡◌, ℕ, ◌+◌, ◌-◌, ◌*◌, ◌^◌, ◌<◌, ◌≤◌, Bool, true, false, cond, List, [], ◌∷◌, ◌++◌, length, replicate, Some, None, decimal, Option, ◌==◌, nat_le}
+use Rattle.std.specs.List.{list_all}
 use Rattle.sheet.specs.declared.record.Letter.{Letter}
 use Rattle.sheet.specs.declared.record.Letter.TheVariants.{M, P, D}
 use Rattle.sheet.specs.declared.record.Place.{Place}
@@ -71,5 +72,4 @@ flag None = None
 flag (Some n) = cond (n == 0) (Some false) (cond (n == 1) (Some true) None)
 
 abbrev pub blank : List ℕ → Bool
-blank [] = true
-blank (b ∷ bs) = b == 32 && blank bs
+blank bs = list_all (λ b. b == 32) bs
