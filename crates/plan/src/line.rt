@@ -1,7 +1,7 @@
 // The rules that a line has to keep by itself, and the action that it then stands for.
-ghost use Rattle.std.specs.Prelude.{◌≡◌, ◌+◌, ◌<◌, true, false, ◌&&◌, MatchOption, ◌==◌, nat_lt};
+ghost use Rattle.std.specs.Prelude.{◌≡◌, ◌+◌, true, false, ◌&&◌, Some, None, MatchOption, MatchResult, ◌==◌, nat_lt};
 ghost use Rattle.terms.specs.Durations.{duration_of};
-ghost use Rattle.terms.specs.Refusals.{Answers, first_of};
+ghost use Rattle.terms.specs.Refusals.{Answers, first_of, told};
 ghost use Rattle.terms.specs.View.{settings_of};
 ghost use Rattle.plan.specs.Lines.{marked, numbered, marks_fit, written_action, joins, top, line_tests};
 ghost use Rattle.plan.specs.View.{action_of, start_of, end_of};
@@ -17,10 +17,7 @@ use terms::{Refusal, Rule, Settings, Work};
 fn is_mark(place: Place) -> bool
     ensures { result ≡ marked place }
 {
-    match place {
-        Place::Outside => true,
-        Place::At(_) => false,
-    }
+    matches!(place, Place::Outside)
 }
 
 // The number in a field, 0 for a mark.
@@ -39,22 +36,17 @@ fn is_well_marked(line: &ActLine) -> bool
 {
     let enters = is_mark(line.from.column);
     let leaves = is_mark(line.to.column);
-    if enters != is_mark(line.from.height)
-        || leaves != is_mark(line.to.height)
-        || (enters && leaves)
-    {
-        return false;
-    }
-    match line.letter {
-        Letter::M => true,
+    let suits = match line.letter {
+        Letter::M => !(enters && leaves),
         Letter::P => !enters && !leaves && !line.carry,
         Letter::D => !enters && !leaves && line.carry,
-    }
+    };
+    suits && enters == is_mark(line.from.height) && leaves == is_mark(line.to.height)
 }
 
 // The point that is written on a side.
-fn point(side: &Side) -> Point
-    ensures { (result.column ≡ numbered side.now.column) × (result.height ≡ numbered side.now.height) }
+fn point(side: Side) -> Point
+    ensures { (result.column ≡ numbered side.column) × (result.height ≡ numbered side.height) }
 {
     Point {
         column: number_in(side.column),
@@ -66,14 +58,14 @@ fn point(side: &Side) -> Point
 fn asked(line: &ActLine) -> Asked
     ensures { asked_of result ≡ asked_in (written_action line.now) }
 {
-    let from = point(&line.from);
-    let to = point(&line.to);
+    let from = point(line.from);
+    let to = point(line.to);
     let enters = is_mark(line.from.column);
     let leaves = is_mark(line.to.column);
     let work = match line.letter {
         Letter::M if enters => Work::Entry,
         Letter::M if leaves => Work::Leave,
-        Letter::M if from.column == to.column && from.height == to.height => Work::Wait,
+        Letter::M if from == to => Work::Wait,
         Letter::M => Work::Move,
         Letter::P => Work::PickUp,
         Letter::D => Work::Deliver,
@@ -85,18 +77,21 @@ fn asked(line: &ActLine) -> Asked
     }
 }
 
-// Whether a column is on the ground and comes no higher than the highest height.
-fn is_within<G: Ground>(ground: &G, settings: &Settings, work: Work, point: Point) -> bool
-    ensures { result ≡ (nat_lt point.column (G.Ground.meaning ground.now).columns && nat_lt (top work point.height) (settings_of settings.now).levels) }
+// The spot at a point, where its column is on the ground and comes no higher than the highest height.
+fn spot<G: Ground>(ground: &G, settings: &Settings, work: Work, point: Point) -> Option<Spot>
+    ensures { MatchOption result ((nat_lt point.column (G.Ground.meaning ground.now).columns && nat_lt (top work point.height) (settings_of settings.now).levels) ≡ false) (λ s. ((nat_lt point.column (G.Ground.meaning ground.now).columns && nat_lt (top work point.height) (settings_of settings.now).levels) ≡ true) × (s.column ≡ point.column) × (s.height ≡ point.height)) }
 {
-    let levels = u32::from(settings.levels());
-    if point.column >= u32::from(ground.columns()) {
-        return false;
+    let top = match work {
+        Work::PickUp | Work::Deliver => point.height.saturating_add(1),
+        _ => point.height,
+    };
+    if point.column >= u32::from(ground.columns()) || top >= u32::from(settings.levels()) {
+        return None;
     }
-    match work {
-        Work::PickUp | Work::Deliver => point.height < levels.saturating_sub(1),
-        _ => point.height < levels,
-    }
+    Some(Spot {
+        column: point.column as u16,
+        height: point.height as u8,
+    })
 }
 
 // Whether the work can be done from a column to another: at the border, along a link, not to a border column.
@@ -115,14 +110,32 @@ fn is_joined<G: Ground>(ground: &G, work: Work, from: u16, to: u16) -> bool
 fn lasting(settings: &Settings, work: Work, line: &ActLine) -> Option<Span>
     ensures { MatchOption result ((line.now.end == line.now.start + duration_of (settings_of settings.now).times work line.now.carry) ≡ false) (λ x. ((line.now.end == line.now.start + duration_of (settings_of settings.now).times work line.now.carry) ≡ true) × (start_of x ≡ line.now.start) × (end_of x ≡ line.now.end)) }
 {
-    let duration = settings.duration(work, line.carry);
-    let Some(span) = Span::new(line.start, line.end) else {
-        return None;
-    };
-    if span.cost() != u32::from(duration) {
-        return None;
+    let duration = u32::from(settings.duration(work, line.carry));
+    Span::new(line.start, line.end).filter(|span| span.cost() == duration)
+}
+
+// The action that a line stands for, or the first rule that it breaks by itself.
+fn read_action<G: Ground>(ground: &G, settings: &Settings, line: &ActLine) -> Result<Action, Rule>
+    ensures { MatchResult result (λ a. (first_of (line_tests (G.Ground.meaning ground.now) (settings_of settings.now) line.now) ≡ None) × (action_of a ≡ written_action line.now)) (λ rule. first_of (line_tests (G.Ground.meaning ground.now) (settings_of settings.now) line.now) ≡ Some (told rule line.now.line 0)) }
+{
+    if !is_well_marked(line) {
+        return Err(Rule::MarksMixed);
     }
-    Some(span)
+    let Asked { work, from, to } = asked(line);
+    let from = spot(ground, settings, work, from).ok_or(Rule::OffScale)?;
+    let to = spot(ground, settings, work, to).ok_or(Rule::OffScale)?;
+    if !is_joined(ground, work, from.column, to.column) {
+        return Err(Rule::NotConnected);
+    }
+    let span = lasting(settings, work, line).ok_or(Rule::WrongDuration)?;
+    Ok(Action {
+        line: line.line,
+        work,
+        from,
+        to,
+        carry: line.carry,
+        span,
+    })
 }
 
 // The action that a line stands for, or the first rule that the line breaks by itself.
@@ -133,33 +146,5 @@ pub fn action_of<G: Ground>(
 ) -> Result<Action, Refusal>
     ensures { Answers (first_of (line_tests (G.Ground.meaning ground.now) (settings_of settings.now) line.now)) (λ a. action_of a ≡ written_action line.now) result }
 {
-    if !is_well_marked(line) {
-        return Err(Refusal::at(Rule::MarksMixed, line.line, 0));
-    }
-    let Asked { work, from, to } = asked(line);
-    if !is_within(ground, settings, work, from) || !is_within(ground, settings, work, to) {
-        return Err(Refusal::at(Rule::OffScale, line.line, 0));
-    }
-    let from = Spot {
-        column: from.column as u16,
-        height: from.height as u8,
-    };
-    let to = Spot {
-        column: to.column as u16,
-        height: to.height as u8,
-    };
-    if !is_joined(ground, work, from.column, to.column) {
-        return Err(Refusal::at(Rule::NotConnected, line.line, 0));
-    }
-    let Some(span) = lasting(settings, work, line) else {
-        return Err(Refusal::at(Rule::WrongDuration, line.line, 0));
-    };
-    Ok(Action {
-        line: line.line,
-        work,
-        from,
-        to,
-        carry: line.carry,
-        span,
-    })
+    read_action(ground, settings, line).map_err(|rule| Refusal::at(rule, line.line, 0))
 }
