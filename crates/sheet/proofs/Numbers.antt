@@ -29,17 +29,17 @@ valued ds n e = go (all_ascii_digits ds) (sym (digits_all 0 ds) ∙ e)
   where
     go : (b : Bool) → cond b (Some (read_on 0 ds)) None ≡ Some n → (b ≡ true) × (read_on 0 ds ≡ n)
     go true h = (refl, cc)
-    go false h = let z : ◌≡◌ {A = ℕ} 0 1 = cc in absurd (omega arith)
+    go false h = cc
 
 -- a plain number: some digits, and no 0 before another
 parts : (ds : List ℕ) (n : ℕ) → plain ds ≡ Some n → (digits 0 ds ≡ Some n) × (0 < length ds) × (get_or ds 0 0 ≡ 48 → length ds ≡ 1)
-parts [] n e = let z : ◌≡◌ {A = ℕ} 0 1 = cc in absurd (omega arith)
+parts [] n e = cc
 parts (b ∷ []) n e = (e, omega arith, λ _. refl)
 parts (b ∷ c ∷ bs) n e = go (eqb b 48) refl e
   where
     go : (t : Bool) → t ≡ eqb b 48 → cond t None (digits 0 (b ∷ c ∷ bs)) ≡ Some n → (digits 0 (b ∷ c ∷ bs) ≡ Some n) × (0 < length (b ∷ c ∷ bs)) × (b ≡ 48 → length (b ∷ c ∷ bs) ≡ 1)
-    go true et h = let z : ◌≡◌ {A = ℕ} 0 1 = cc in absurd (omega arith)
-    go false et h = (h, omega arith, λ q. let w = eq-eqb b 48 q in let z : ◌≡◌ {A = ℕ} 0 1 = cc in absurd (omega arith))
+    go true et h = cc
+    go false et h = (h, omega arith, λ q. let w = eq-eqb b 48 q in cc)
 
 joins : (ds : List ℕ) → 0 < length ds → (get_or ds 0 0 ≡ 48 → length ds ≡ 1) → plain ds ≡ digits 0 ds
 joins [] h f = absurd (omega arith)
@@ -80,7 +80,7 @@ number_shows : (bs : List ℕ) (n : ℕ) → number_in bs ≡ Some n → Shows b
 number_shows bs n e = go (leb (length bs) 9) refl e
   where
     go : (t : Bool) → t ≡ leb (length bs) 9 → cond t (plain (unspaced bs)) None ≡ Some n → Shows bs n
-    go false et h = let z : ◌≡◌ {A = ℕ} 0 1 = cc in absurd (omega arith)
+    go false et h = cc
     go true et h =
         let p = parts (unspaced bs) n h in
         let v = valued (unspaced bs) n p.0 in
