@@ -45,12 +45,14 @@ fn is_well_marked(line: &ActLine) -> bool
 }
 
 // The point that is written on a side.
-fn point(side: Side) -> Point
-    ensures { (result.column ≡ numbered side.column) × (result.height ≡ numbered side.height) }
-{
-    Point {
-        column: number_in(side.column),
-        height: number_in(side.height),
+impl From<Side> for Point {
+    ghost from_gives = { λ side point. (point.column ≡ numbered side.column) × (point.height ≡ numbered side.height) };
+
+    fn from(side: Side) -> Point {
+        Point {
+            column: number_in(side.column),
+            height: number_in(side.height),
+        }
     }
 }
 
@@ -58,8 +60,8 @@ fn point(side: Side) -> Point
 fn asked(line: &ActLine) -> Asked
     ensures { asked_of result ≡ asked_in (written_action line.now) }
 {
-    let from = point(line.from);
-    let to = point(line.to);
+    let from = Point::from(line.from);
+    let to = Point::from(line.to);
     let enters = is_mark(line.from.column);
     let leaves = is_mark(line.to.column);
     let work = match line.letter {

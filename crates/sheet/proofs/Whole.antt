@@ -1,6 +1,5 @@
 -- The refusal of a sheet, one line after another. Assumes nothing.
-use Rattle.std.proofs.Common.{◌≡◌, ℕ, zero, suc, ◌+◌, ◌-◌, ◌*◌, ◌<◌, Bool, true, false, cond, eqb, List, [], ◌++◌, length, get_or, take, drop, Some, None, Option, sym, refl, ap, ◌∙◌, arith}
-use native.Mathlib.Nat.{sub-zero}
+use Rattle.std.proofs.Common.{◌≡◌, ℕ, zero, suc, ◌+◌, ◌-◌, ◌*◌, ◌<◌, Bool, true, false, cond, eqb, List, ◌++◌, length, get_or, take, drop, Some, None, Option, sym, refl, ap, ◌∙◌, arith}
 use Rattle.std.proofs.lemmas.List.{drop-drop}
 use Rattle.std.specs.Simd.{first_chunks}
 use Rattle.terms.specs.Durations.{SiteSettings}
@@ -50,9 +49,6 @@ module _ (m : Meaning) (s : SiteSettings) (sheet : List ℕ) where
       let last : eqb (j + 1) total ≡ eqb (suc i) (lines_in sheet) = cc in
       let same : refused_here m' s' (j + 1) l (eqb (j + 1) total) ts n ≡ refused_here m s (suc i) (line_at sheet i) (eqb (suc i) (lines_in sheet)) (targets sheet i) (length (acts sheet i)) = cc in
       same ∙ sym (first_append (line_tests (suc i) (line_at sheet i)) (place_tests m s (suc i) (eqb (suc i) (lines_in sheet)) (targets sheet i) (length (acts sheet i)) (record_in (suc i) (line_at sheet i))))
-
-  pub none_read : SoFar m s sheet 0 [] []
-  none_read = record { targets_read = refl; acts_read = refl; rest = ap (λ (k : ℕ). first_of (from_on (tests_at m s sheet) 0 k)) (sub-zero (lines_in sheet)) }
 
   -- line i, as the code reads it: behind j lines, and for m' and s'
   module _ (m' : Meaning) (s' : SiteSettings) (j i total : ℕ) (l : List ℕ) (ts : List Target) (ls : List ActLine) (n : ℕ) (em : m' ≡ m) (es : s' ≡ s) (ej : j ≡ i) (below : i < lines_in sheet)

@@ -1,5 +1,5 @@
 -- A line of 35 bytes: its word, what it shows, and whether it is well formed. Assumes nothing.
-use Rattle.std.specs.Prelude.{ℕ, Bool, true, false, cond, not, ◌&&◌, List, Some, None, Ok, Option, Result, ◌==◌, nat_le, slice_index}
+use Rattle.std.specs.Prelude.{ℕ, Bool, true, false, cond, not, ◌&&◌, List, Some, None, Ok, Option, Result, ◌==◌, nat_le, option_and_then, slice_index}
 use Rattle.std.specs.List.{list_all}
 use Rattle.std.specs.Result.{result_ok, result_err}
 use Rattle.sheet.specs.declared.record.Record.{Record}
@@ -53,12 +53,10 @@ shown line (Some Word.note) fs = Some (Ok Note)
 shown line (Some Word.end) fs = Some (end_in fs)
 
 abbrev pub unread : Option (Result Record ℕ) → Option ℕ
-unread None = None
-unread (Some r) = result_err r
+unread o = option_and_then result_err o
 
 abbrev pub read : Option (Result Record ℕ) → Option Record
-read None = None
-read (Some r) = result_ok r
+read o = option_and_then result_ok o
 
 abbrev pub bad_shape : List ℕ → Bool
 bad_shape l = misshapen (word_in l) (fields l)
