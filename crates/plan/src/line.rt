@@ -81,7 +81,7 @@ fn asked(line: &ActLine) -> Asked
 
 // The spot at a point, where its column is on the ground and comes no higher than the highest height.
 fn spot<G: Ground>(ground: &G, settings: &Settings, work: Work, point: Point) -> Option<Spot>
-    ensures { MatchOption result ((nat_lt point.column (G.Ground.meaning ground.now).columns && nat_lt (top work point.height) (settings_of settings.now).levels) ≡ false) (λ s. ((nat_lt point.column (G.Ground.meaning ground.now).columns && nat_lt (top work point.height) (settings_of settings.now).levels) ≡ true) × (s.column ≡ point.column) × (s.height ≡ point.height)) }
+    ensures { let fits = nat_lt point.column (G.Ground.meaning ground.now).columns && nat_lt (top work point.height) (settings_of settings.now).levels in MatchOption result (fits ≡ false) (λ s. (fits ≡ true) × (s.column ≡ point.column) × (s.height ≡ point.height)) }
 {
     let top = match work {
         Work::PickUp | Work::Deliver => point.height.saturating_add(1),
@@ -110,7 +110,7 @@ fn is_joined<G: Ground>(ground: &G, work: Work, from: u16, to: u16) -> bool
 
 // The span of a line, where it is as long as the work takes.
 fn lasting(settings: &Settings, work: Work, line: &ActLine) -> Option<Span>
-    ensures { MatchOption result ((line.now.end == line.now.start + duration_of (settings_of settings.now).times work line.now.carry) ≡ false) (λ x. ((line.now.end == line.now.start + duration_of (settings_of settings.now).times work line.now.carry) ≡ true) × (start_of x ≡ line.now.start) × (end_of x ≡ line.now.end)) }
+    ensures { let lasts = line.now.end == line.now.start + duration_of (settings_of settings.now).times work line.now.carry in MatchOption result (lasts ≡ false) (λ x. (lasts ≡ true) × (start_of x ≡ line.now.start) × (end_of x ≡ line.now.end)) }
 {
     let duration = u32::from(settings.duration(work, line.carry));
     Span::new(line.start, line.end).filter(|span| span.cost() == duration)
@@ -118,7 +118,7 @@ fn lasting(settings: &Settings, work: Work, line: &ActLine) -> Option<Span>
 
 // The action that a line stands for, or the first rule that it breaks by itself.
 fn read_action<G: Ground>(ground: &G, settings: &Settings, line: &ActLine) -> Result<Action, Rule>
-    ensures { MatchResult result (λ a. (first_of (line_tests (G.Ground.meaning ground.now) (settings_of settings.now) line.now) ≡ None) × (action_of a ≡ written_action line.now)) (λ rule. first_of (line_tests (G.Ground.meaning ground.now) (settings_of settings.now) line.now) ≡ Some (told rule line.now.line 0)) }
+    ensures { let first = first_of (line_tests (G.Ground.meaning ground.now) (settings_of settings.now) line.now) in MatchResult result (λ a. (first ≡ None) × (action_of a ≡ written_action line.now)) (λ rule. first ≡ Some (told rule line.now.line 0)) }
 {
     if !is_well_marked(line) {
         return Err(Rule::MarksMixed);

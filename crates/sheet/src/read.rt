@@ -22,18 +22,19 @@ impl<'a, G: Ground> Reader<'a, G> {
     fn is_fit(&self, column: u32, height: u32) -> bool
         ensures { result ≡ goal_fits (G.Ground.meaning self.now.ground.now) (settings_of self.now.settings.now) self.now.targets.items (vec_len self.now.acts) column height }
     {
+        let rises = self
+            .targets
+            .last()
+            .is_none_or(|last| u32::from(last.column) < column);
         self.acts.is_empty()
-            && self
-                .targets
-                .last()
-                .is_none_or(|last| u32::from(last.column) < column)
+            && rises
             && column < u32::from(self.ground.columns())
             && !self.ground.is_border(column as u16)
             && (1..u32::from(self.settings.levels())).contains(&height)
     }
 
-    // That what the line of a number shows fits behind what was read.
-    fn place(&self, number: u16, shown: Record) -> Result<(), Refusal>
+    // That what the line of a number shows fits behind what was read, or why not.
+    fn check(&self, number: u16, shown: Record) -> Result<(), Refusal>
         ensures { Answers (first_of (place_tests (G.Ground.meaning self.now.ground.now) (settings_of self.now.settings.now) number (number == self.now.total) self.now.targets.items (vec_len self.now.acts) (Some shown))) (λ _. Small shown) result }
     {
         let last = number == self.total;
@@ -75,7 +76,7 @@ impl<'a, G: Ground> Reader<'a, G> {
     {
         let number = self.lines + 1;
         let shown = read_line(bytes, number)?;
-        self.place(number, shown)?;
+        self.check(number, shown)?;
         self.add(shown);
         Ok(())
     }
