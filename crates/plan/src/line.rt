@@ -79,65 +79,77 @@ fn asked(line: &ActLine) -> Asked
     }
 }
 
-// The spot at a point, where its column is on the ground and comes no higher than the highest height.
-fn spot<G: Ground>(ground: &G, settings: &Settings, work: Work, point: Point) -> Option<Spot>
-    ensures { let fits = nat_lt point.column (G.Ground.meaning ground.now).columns && nat_lt (top work point.height) (settings_of settings.now).levels in MatchOption result (fits ≡ false) (λ s. (fits ≡ true) × (s.column ≡ point.column) × (s.height ≡ point.height)) }
-{
-    let top = match work {
-        Work::PickUp | Work::Deliver => point.height.saturating_add(1),
-        _ => point.height,
-    };
-    if point.column >= u32::from(ground.columns()) || top >= u32::from(settings.levels()) {
-        return None;
-    }
-    Some(Spot {
-        column: point.column as u16,
-        height: point.height as u8,
-    })
+// Where a plan is carried out.
+#[derive(Drop)]
+struct Site<'a, G: Ground> {
+    ground: &'a G,
+    settings: &'a Settings,
 }
 
-// Whether the work can be done from a column to another: at the border, along a link, not to a border column.
-fn is_joined<G: Ground>(ground: &G, work: Work, from: u16, to: u16) -> bool
-    ensures { result ≡ joins (G.Ground.meaning ground.now) work from to }
-{
-    match work {
-        Work::Entry | Work::Leave => ground.is_border(from),
-        Work::Wait => true,
-        Work::Move => is_linked(ground, from, to),
-        Work::PickUp | Work::Deliver => is_linked(ground, from, to) && !ground.is_border(to),
+impl<'a, G: Ground> Site<'a, G> {
+    // The spot at a point, where its column is on the ground and comes no higher than the highest height.
+    fn spot(&self, work: Work, point: Point) -> Option<Spot>
+        ensures { let fits = nat_lt point.column (G.Ground.meaning self.now.ground.now).columns && nat_lt (top work point.height) (settings_of self.now.settings.now).levels in MatchOption result (fits ≡ false) (λ s. (fits ≡ true) × (s.column ≡ point.column) × (s.height ≡ point.height)) }
+    {
+        let top = match work {
+            Work::PickUp | Work::Deliver => point.height.saturating_add(1),
+            _ => point.height,
+        };
+        let on_ground = point.column < u32::from(self.ground.columns());
+        if !on_ground || top >= u32::from(self.settings.levels()) {
+            return None;
+        }
+        Some(Spot {
+            column: point.column as u16,
+            height: point.height as u8,
+        })
     }
-}
 
-// The span of a line, where it is as long as the work takes.
-fn lasting(settings: &Settings, work: Work, line: &ActLine) -> Option<Span>
-    ensures { let lasts = line.now.end == line.now.start + duration_of (settings_of settings.now).times work line.now.carry in MatchOption result (lasts ≡ false) (λ x. (lasts ≡ true) × (start_of x ≡ line.now.start) × (end_of x ≡ line.now.end)) }
-{
-    let duration = u32::from(settings.duration(work, line.carry));
-    Span::new(line.start, line.end).filter(|span| span.cost() == duration)
-}
+    // Whether the work can be done from a column to another: at the border, along a link, not to a border column.
+    fn is_joined(&self, work: Work, from: u16, to: u16) -> bool
+        ensures { result ≡ joins (G.Ground.meaning self.now.ground.now) work from to }
+    {
+        match work {
+            Work::Entry | Work::Leave => self.ground.is_border(from),
+            Work::Wait => true,
+            Work::Move => is_linked(self.ground, from, to),
+            Work::PickUp | Work::Deliver => {
+                is_linked(self.ground, from, to) && !self.ground.is_border(to)
+            }
+        }
+    }
 
-// The action that a line stands for, or the first rule that it breaks by itself.
-fn read_action<G: Ground>(ground: &G, settings: &Settings, line: &ActLine) -> Result<Action, Rule>
-    ensures { let first = first_of (line_tests (G.Ground.meaning ground.now) (settings_of settings.now) line.now) in MatchResult result (λ a. (first ≡ None) × (action_of a ≡ written_action line.now)) (λ rule. first ≡ Some (told rule line.now.line 0)) }
-{
-    if !is_well_marked(line) {
-        return Err(Rule::MarksMixed);
+    // The span of a line, where it is as long as the work takes.
+    fn lasting(&self, work: Work, line: &ActLine) -> Option<Span>
+        ensures { let lasts = line.now.end == line.now.start + duration_of (settings_of self.now.settings.now).times work line.now.carry in MatchOption result (lasts ≡ false) (λ x. (lasts ≡ true) × (start_of x ≡ line.now.start) × (end_of x ≡ line.now.end)) }
+    {
+        let duration = u32::from(self.settings.duration(work, line.carry));
+        Span::new(line.start, line.end).filter(|span| span.cost() == duration)
     }
-    let Asked { work, from, to } = asked(line);
-    let from = spot(ground, settings, work, from).ok_or(Rule::OffScale)?;
-    let to = spot(ground, settings, work, to).ok_or(Rule::OffScale)?;
-    if !is_joined(ground, work, from.column, to.column) {
-        return Err(Rule::NotConnected);
+
+    // The action that a line stands for there, or the first rule that it breaks by itself.
+    fn read_action(&self, line: &ActLine) -> Result<Action, Rule>
+        ensures { let first = first_of (line_tests (G.Ground.meaning self.now.ground.now) (settings_of self.now.settings.now) line.now) in MatchResult result (λ a. (first ≡ None) × (action_of a ≡ written_action line.now)) (λ rule. first ≡ Some (told rule line.now.line 0)) }
+    {
+        if !is_well_marked(line) {
+            return Err(Rule::MarksMixed);
+        }
+        let Asked { work, from, to } = asked(line);
+        let from = self.spot(work, from).ok_or(Rule::OffScale)?;
+        let to = self.spot(work, to).ok_or(Rule::OffScale)?;
+        if !self.is_joined(work, from.column, to.column) {
+            return Err(Rule::NotConnected);
+        }
+        let span = self.lasting(work, line).ok_or(Rule::WrongDuration)?;
+        Ok(Action {
+            line: line.line,
+            work,
+            from,
+            to,
+            carry: line.carry,
+            span,
+        })
     }
-    let span = lasting(settings, work, line).ok_or(Rule::WrongDuration)?;
-    Ok(Action {
-        line: line.line,
-        work,
-        from,
-        to,
-        carry: line.carry,
-        span,
-    })
 }
 
 // The action that a line stands for, or the first rule that the line breaks by itself.
@@ -148,5 +160,6 @@ pub fn action_of<G: Ground>(
 ) -> Result<Action, Refusal>
     ensures { Answers (first_of (line_tests (G.Ground.meaning ground.now) (settings_of settings.now) line.now)) (λ a. action_of a ≡ written_action line.now) result }
 {
-    read_action(ground, settings, line).map_err(|rule| Refusal::at(rule, line.line, 0))
+    let read = Site { ground, settings }.read_action(line);
+    read.map_err(|rule| Refusal::at(rule, line.line, 0))
 }
