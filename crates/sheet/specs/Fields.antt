@@ -48,8 +48,11 @@ lone (b ∷ c ∷ bs) = None
 abbrev pub letter : ℕ → Option Letter
 letter b = cond (b == 77) (Some M) (cond (b == 80) (Some P) (cond (b == 68) (Some D) None))
 
+abbrev pub by_one : {X : Type 0} → (ℕ → Option X) → Option ℕ → Option X
+by_one f o = option_and_then f o
+
 abbrev pub letter_in : List ℕ → Option Letter
-letter_in bs = option_and_then letter (lone (unspaced bs))
+letter_in bs = by_one letter (lone (unspaced bs))
 
 -- a column or a height: a number, or the mark (83 for S, 69 for E) that stands for outside
 abbrev pub numbered : Option ℕ → Option Place
