@@ -3,10 +3,9 @@ use Rattle.std.proofs.Common.{◌≡◌, ℕ, Bool, true, false, not, ◌&&◌, 
 use Rattle.std.proofs.lemmas.Bool.{not_from_false, not-true, true≢false}
 use Rattle.std.proofs.lemmas.Bool.Decides.{Decides-and, Decides-eqb, Decides-like, Decides-ltb, Decides-not}
 use Rattle.terms.specs.Durations.{SiteSettings}
-use Rattle.terms.specs.Refusals.{Settles, first_of}
 use Rattle.terms.specs.declared.work.Work.{Work}
 use Rattle.terms.specs.declared.work.Work.TheVariants.{Entry, Leave, Wait, Move, PickUp, Deliver}
-use Rattle.terms.proofs.First.{Decide, first_settles}
+use Rattle.terms.proofs.First.{Decide}
 use Rattle.ground.specs.Meaning.{Meaning}
 use Rattle.sheet.specs.declared.record.ActLine.{ActLine}
 use Rattle.sheet.specs.declared.record.Letter.{Letter}
@@ -88,9 +87,6 @@ module _ (m : Meaning) (s : SiteSettings) (l : ActLine) where
       ),
     ),
   )
-
-  pub line_settles : Settles (line_reasons m s l) (first_of (line_tests m s l))
-  line_settles = first_settles (line_tests m s l) (line_reasons m s l) line_decides
 
 -- the rules of a line by itself, where none is broken
 pub record Kept (m : Meaning) (s : SiteSettings) (l : ActLine) : Type 0 where

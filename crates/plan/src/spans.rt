@@ -28,7 +28,7 @@ impl Span {
     pub fn holds(&self, time: u32) -> bool
         ensures { result ≡ held (start_of self.now) (end_of self.now) time }
     {
-        self.start <= time && time < self.end
+        (self.start..self.end).contains(&time)
     }
 
     // Whether some timestep is in both.
