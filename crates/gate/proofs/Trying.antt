@@ -17,11 +17,8 @@ module _ (ts : List Test) (o : Option ℕ) where
   pub by_tests : {t : Told} → Some t ≡ first_of ts → Some t ≡ first_of (ts ++ strands o ∷ [])
   by_tests {t} h = sym (after_tests (Some t) h)
 
-  pub by_trial : {x : ℕ} → None ≡ first_of ts → Some x ≡ o → Some (told NoWayHome 0 x) ≡ first_of (ts ++ strands o ∷ [])
-  by_trial h e = sym (after_tests None h ∙ ap (λ x. first_of (strands x ∷ [])) (sym e))
-
-  pub by_none : None ≡ first_of ts → None ≡ o → None ≡ first_of (ts ++ strands o ∷ [])
-  by_none h e = sym (after_tests None h ∙ ap (λ x. first_of (strands x ∷ [])) (sym e))
+  pub by_trial : (e : Option Told) → None ≡ first_of ts → e ≡ first_of (strands o ∷ []) → e ≡ first_of (ts ++ strands o ∷ [])
+  by_trial e h i = i ∙ sym (after_tests None h)
 
 -- the first test fails
 abbrev FirstFails : List Test → Type 0

@@ -14,24 +14,18 @@ use ways::Ways;
 fn better(best: Option<(u16, u16)>, column: u16, steps: Option<u16>) -> Option<(u16, u16)>
     ensures { result ≡ better best column steps }
 {
-    match (best, steps) {
-        (_, None) => best,
-        (None, Some(k)) => Some((column, k)),
-        (Some((_, j)), Some(k)) => if k < j { Some((column, k)) } else { best },
+    match steps {
+        Some(steps) if best.is_none_or(|(_, fewest)| steps < fewest) => Some((column, steps)),
+        _ => best,
     }
 }
 
 impl<G: Ground> Site<G> {
     // Whether an action runs.
     fn any_runs(&self) -> bool
-        ensures { result ≡ any_runs (G.Ground.meaning self.now.ground) (scene_of G.Ground.meaning self.now).columns }
+        ensures { result ≡ any_runs (G.Ground.meaning self.now.floor) (scene_of G.Ground.meaning self.now).columns }
     {
-        for column in 0..self.ground.columns() {
-            if self.look(column).state.runs() {
-                return true;
-            }
-        }
-        false
+        self.columns.iter().any(|here| here.state.runs())
     }
 
     // The steps home of the robot at a column, if one is there and has a way.
@@ -47,37 +41,28 @@ impl<G: Ground> Site<G> {
 
     // The column of the robot with the fewest steps home, and these steps.
     fn nearest(&self, ways: &Ways) -> Option<(u16, u16)>
-        ensures { result ≡ best_below (robot_steps (scene_of G.Ground.meaning self.now).columns (steps_in ways.now)) (G.Ground.meaning self.now.ground).columns }
+        ensures { result ≡ best_below (robot_steps (scene_of G.Ground.meaning self.now).columns (steps_in ways.now)) (G.Ground.meaning self.now.floor).columns }
     {
-        let mut best = None;
-        for column in 0..self.ground.columns() {
-            best = better(best, column, self.robot_steps(ways, column));
-        }
-        best
+        (0..self.floor.columns())
+            .fold(None, |best, column| better(best, column, self.robot_steps(ways, column)))
     }
 
     // How many actions the robots have still to do: each its steps home, and the leave.
     fn toll(&self, ways: &Ways) -> u32
-        ensures { result ≡ toll (G.Ground.meaning self.now.ground) (scene_of G.Ground.meaning self.now).columns (steps_in ways.now) }
+        ensures { result ≡ toll (G.Ground.meaning self.now.floor) (scene_of G.Ground.meaning self.now).columns (steps_in ways.now) }
     {
-        let mut sum = 0;
-        for column in 0..self.ground.columns() {
-            sum += cost(self.robot_steps(ways, column));
-        }
-        sum
+        (0..self.floor.columns()).map(|column| cost(self.robot_steps(ways, column))).sum()
     }
 
     // What the robot at a column does next, so many steps from home.
     fn next(&self, ways: &Ways, column: u16, steps: u16) -> Next
-        ensures { result ≡ next_by (G.Ground.meaning self.now.ground) (scene_of G.Ground.meaning self.now).columns (steps_in ways.now) column steps }
+        ensures { result ≡ next_by (G.Ground.meaning self.now.floor) (scene_of G.Ground.meaning self.now).columns (steps_in ways.now) column steps }
     {
         if steps == 0 {
             return Next::Leaves;
         }
-        match ways.nearer(&self.ground, &self.columns, column) {
-            Some(to) => Next::Moves { to },
-            None => Next::Moves { to: 0 },
-        }
+        let to = ways.nearer(&self.floor, &self.columns, column).unwrap_or(0);
+        Next::Moves { to }
     }
 
     // The next action on the way to an empty site. It starts nothing.
@@ -86,12 +71,10 @@ impl<G: Ground> Site<G> {
         ensures words { Homeward (scene_of G.Ground.meaning self.now) → Recalled (scene_of G.Ground.meaning self.now) (recall_of result) }
     {
         if self.any_runs() {
-            return Err(Refusal::plain(Rule::ActionRuns));
+            return Err(Rule::ActionRuns.into());
         }
-        let ways = Ways::search(&self.ground, &self.columns, &self.marks);
-        let Some((column, steps)) = self.nearest(&ways) else {
-            return Err(Refusal::plain(Rule::NoRobot));
-        };
+        let ways = Ways::search(&self.floor, &self.columns, &self.marks);
+        let (column, steps) = self.nearest(&ways).ok_or(Rule::NoRobot)?;
         let next = self.next(&ways, column, steps);
         Ok(Order {
             column,
@@ -106,8 +89,5 @@ fn cost(steps: Option<u16>) -> u32
     ensures value { result ≡ cost_of steps }
     ensures small { result ≤ 65536 }
 {
-    match steps {
-        None => 0,
-        Some(n) => n as u32 + 1,
-    }
+    steps.map_or(0, |n| u32::from(n) + 1)
 }

@@ -1,29 +1,27 @@
-use Rattle.std.proofs.Common.{get_or, set, is_some, sym, ap, ◌∙◌}
+use Rattle.std.proofs.Common.{◌≡◌, ◌<◌, ◌||◌, eqb, length, get_or, set, sym, ap, ◌∙◌, arith}
 use Rattle.std.proofs.lemmas.List.{set-set, set-get_or}
-use Rattle.std.proofs.lemmas.Bool.{cond-true}
+use Rattle.ways.specs.View.{marked}
+use Rattle.gate.specs.Scene.{lying}
 use Rattle.gate.specs.Gate.{lowest_stranded}
-use Rattle.gate.proofs.Lies.{lies_tried, is_none}
+use Rattle.gate.proofs.Lies.{lies_tried}
 use Rattle.gate.proofs.trial.try_change.Goals as goal
 
-pub returns-then-is_some : goal.returns-then-is_some
-returns-then-is_some g c =
+pub returns-in-Some-clause-answer : goal.returns-in-Some-clause-answer
+returns-in-Some-clause-answer g c =
     let m = g.G.Ground.meaning c.args.ground.now in
     let xs = c.args.columns.now in
     let ms = c.args.marks.now in
-    let at = c.args.column in
-    let r = c.lowest_stranded-stranded.result in
-    record {
-      answer = c.lowest_stranded-stranded.ensures ∙ ap (lowest_stranded m xs) (lies_tried xs ms at c.requires);
-      marks = c.drop-trial.ensures ∙ set-set ms at 1 (get_or ms at 0) ∙ set-get_or ms at 0 ∙ sym (cond-true (is_some r) ms (set ms at 1) (sym c.if-is_some.ensures));
-    }
+    c.in-Some.ensures ∙ ap (λ at. lowest_stranded m xs (lying xs (marked (set ms at 1)))) c.from-at.ensures ∙ ap (lowest_stranded m xs) (lies_tried xs ms c.args.column c.requires)
 
-pub returns : goal.returns
-returns g c =
+pub returns-in-Some-clause-marks : goal.returns-in-Some-clause-marks
+returns-in-Some-clause-marks g c =
+    let ms = c.args.marks.now in
+    let at = c.from-at.result in
+    c.drop-trial.ensures ∙ set-set ms at 1 (get_or ms at 0) ∙ set-get_or ms at 0
+
+pub returns-clause-answer : goal.returns-clause-answer
+returns-clause-answer g c =
     let m = g.G.Ground.meaning c.args.ground.now in
     let xs = c.args.columns.now in
     let ms = c.args.marks.now in
-    record {
-      answer = sym (is_none c.lowest_stranded-stranded.result (sym c.if-is_some.ensures)) ∙ c.lowest_stranded-stranded.ensures
-          ∙ ap (lowest_stranded m xs) (lies_tried xs ms c.args.column c.requires);
-      marks = c.keep.ensures;
-    }
+    c.in_default.ensures ∙ ap (λ at. lowest_stranded m xs (lying xs (marked (set ms at 1)))) c.from-at.ensures ∙ ap (lowest_stranded m xs) (lies_tried xs ms c.args.column c.requires)

@@ -1,10 +1,15 @@
-use Rattle.std.proofs.Common.{vec_items, sym, ap, ◌∙◌, add-one}
+use Rattle.std.proofs.Common.{◌≡◌, ℕ, None, Option, rules, vec_items, refl, ap, ◌∙◌, arith}
+use Rattle.std.proofs.lemmas.Iterator.{YieldsList-from_range}
+use Rattle.std.proofs.lemmas.Iterator.Consumers.{fold_from_yields_List}
+use borrow.Author.Tests.{tests}
 use Rattle.ways.specs.View.{steps_in}
-use Rattle.gate.specs.Recall.{best_below, better, robot_steps}
+use Rattle.gate.specs.Recall.{robot_steps, better, best_below}
+use Rattle.gate.proofs.Below.{best_ranged}
 use Rattle.gate.proofs.site.Site.nearest.Goals as goal
 
-pub loop-column-preserved : goal.loop-column-preserved
-loop-column-preserved g c =
-    let f = robot_steps (vec_items c.args.self.now.columns) (steps_in c.args.ways.now) in
-    let i = c.loop-column.column in
-    c.better-best.ensures ∙ ap (better c.loop-column.best i) c.robot_steps.ensures ∙ ap (λ b. better b i (f i)) c.loop-column.invariant ∙ sym (ap (best_below f) (add-one i))
+pub returns : goal.returns
+returns g c =
+    let f : ℕ → Option ℕ = robot_steps (vec_items c.args.self.now.columns) (steps_in c.args.ways.now) in
+    let n = c.columns.result in
+    fold_from_yields_List _ (λ b k. better b k (f k)) None c.fold.result c.fold.ensures.ran (YieldsList-from_range 0 n n refl (omega arith)) (λ a x b q k. search (rules, tests))
+    ∙ best_ranged f n ∙ ap (best_below f) c.columns.ensures
