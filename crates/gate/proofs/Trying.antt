@@ -1,8 +1,7 @@
 -- A lay or a lift is refused by one of its first tests, or by the trial, or granted. Assumes nothing.
 use Rattle.std.proofs.Common.{◌≡◌, ℕ, ◌<◌, Bool, true, false, cond, ◌||◌, ltb, List, [], ◌∷◌, ◌++◌, Some, None, Option, sym, refl, ap, ◌∙◌}
 use Rattle.terms.specs.Durations.{SiteSettings}
-use Rattle.terms.specs.Refusals.{Told, told, first_of, or_else}
-use Rattle.terms.specs.declared.refusal.Rule.TheVariants.{NoWayHome}
+use Rattle.terms.specs.Refusals.{Told, first_of, or_else}
 use Rattle.terms.proofs.First.{first_append}
 use Rattle.std.proofs.lemmas.Bool.{ltb-true, not-false, or_parts}
 use Rattle.ground.specs.Meaning.{Meaning}

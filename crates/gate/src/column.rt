@@ -38,7 +38,10 @@ impl Part {
     fn has_robot(self) -> bool
         ensures { result ≡ robot_in self }
     {
-        !matches!(self, Part::Arriving { .. } | Part::Rising { .. } | Part::Sinking { .. })
+        !matches!(
+            self,
+            Part::Arriving { .. } | Part::Rising { .. } | Part::Sinking { .. }
+        )
     }
 
     // Whether that robot has a block.
@@ -123,7 +126,13 @@ impl State {
     pub(crate) fn is_changing(self) -> bool
         ensures { result ≡ changes self }
     {
-        matches!(self, State::Busy { part: Part::Rising { .. } | Part::Sinking { .. }, .. })
+        matches!(
+            self,
+            State::Busy {
+                part: Part::Rising { .. } | Part::Sinking { .. },
+                ..
+            }
+        )
     }
 }
 

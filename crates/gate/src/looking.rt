@@ -12,27 +12,33 @@ impl<G: Ground> Site<G> {
     pub fn look(&self, column: u16) -> Column
         ensures { result ≡ at (scene_of G.Ground.meaning self.now).columns column }
     {
-        self.columns.get(usize::from(column)).copied().unwrap_or_default()
+        self.columns
+            .get(usize::from(column))
+            .copied()
+            .unwrap_or_default()
     }
 
     // How many robots are on the site, each from its granted enter until its leave ends.
     pub fn robots(&self) -> u16
         ensures { result ≡ robots (G.Ground.meaning self.now.floor) (scene_of G.Ground.meaning self.now).columns }
     {
-        self.columns.iter().filter(|here| here.state.has_robot()).count() as u16
+        let robots = self.columns.iter().filter(|here| here.state.has_robot());
+        robots.count() as u16
     }
 
     // How many blocks stand on the site.
     pub fn blocks_standing(&self) -> u32
         ensures { result ≡ blocks_standing (G.Ground.meaning self.now.floor) (scene_of G.Ground.meaning self.now).columns }
     {
-        self.columns.iter().map(|here| u32::from(here.height)).sum()
+        let heights = self.columns.iter().map(|here| u32::from(here.height));
+        heights.sum()
     }
 
     // How many robots on the site have a block.
     pub fn blocks_carried(&self) -> u16
         ensures { result ≡ blocks_carried (G.Ground.meaning self.now.floor) (scene_of G.Ground.meaning self.now).columns }
     {
-        self.columns.iter().filter(|here| here.state.has_block()).count() as u16
+        let loaded = self.columns.iter().filter(|here| here.state.has_block());
+        loaded.count() as u16
     }
 }

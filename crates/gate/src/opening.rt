@@ -11,6 +11,8 @@ pub(crate) fn lay_out(mut columns: Vec<Column>, count: u16) -> Vec<Column>
     requires few { count ≤ 256 }
     ensures { result.items ≡ replicate count fresh }
 {
-    columns.resize(usize::from(count), Column::default()).unwrap();
+    columns
+        .resize(usize::from(count), Column::default())
+        .unwrap();
     columns
 }

@@ -43,15 +43,19 @@ impl<G: Ground> Site<G> {
     fn nearest(&self, ways: &Ways) -> Option<(u16, u16)>
         ensures { result ≡ best_below (robot_steps (scene_of G.Ground.meaning self.now).columns (steps_in ways.now)) (G.Ground.meaning self.now.floor).columns }
     {
-        (0..self.floor.columns())
-            .fold(None, |best, column| better(best, column, self.robot_steps(ways, column)))
+        (0..self.floor.columns()).fold(
+            None,
+            |best, column| better(best, column, self.robot_steps(ways, column)),
+        )
     }
 
     // How many actions the robots have still to do: each its steps home, and the leave.
     fn toll(&self, ways: &Ways) -> u32
         ensures { result ≡ toll (G.Ground.meaning self.now.floor) (scene_of G.Ground.meaning self.now).columns (steps_in ways.now) }
     {
-        (0..self.floor.columns()).map(|column| cost(self.robot_steps(ways, column))).sum()
+        (0..self.floor.columns())
+            .map(|column| cost(self.robot_steps(ways, column)))
+            .sum()
     }
 
     // What the robot at a column does next, so many steps from home.

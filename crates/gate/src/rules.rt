@@ -35,7 +35,10 @@ impl<G: Ground> Site<G> {
         let here = self.column(column)?;
         ensure(self.floor.is_border(column), Rule::NoLink)?;
         ensure(!here.state.is_held(), Rule::ColumnHeld)?;
-        ensure(self.robots() < u16::from(self.settings.robots()), Rule::SiteFull)
+        ensure(
+            self.robots() < u16::from(self.settings.robots()),
+            Rule::SiteFull,
+        )
     }
 
     pub(crate) fn may_move(&self, from: u16, to: u16) -> Result<(), Rule>
@@ -58,7 +61,10 @@ impl<G: Ground> Site<G> {
         let there = self.column(to)?;
         ensure(here.state.stands(), Rule::NoStandingRobot)?;
         ensure(here.state.has_block() == block, Rule::WrongLoad)?;
-        ensure(is_linked(&self.floor, from, to) && !self.floor.is_border(to), Rule::NoLink)?;
+        ensure(
+            is_linked(&self.floor, from, to) && !self.floor.is_border(to),
+            Rule::NoLink,
+        )?;
         ensure(!there.state.is_held(), Rule::ColumnHeld)?;
         Ok((here, there))
     }
@@ -68,14 +74,20 @@ impl<G: Ground> Site<G> {
     {
         let (here, there) = self.may_change(from, to, true)?;
         let is_below_top = u16::from(there.height) + 1 < u16::from(self.settings.levels());
-        ensure(here.height == there.height && is_below_top, Rule::WrongHeights)
+        ensure(
+            here.height == there.height && is_below_top,
+            Rule::WrongHeights,
+        )
     }
 
     pub(crate) fn may_lift(&self, from: u16, to: u16) -> Result<(), Rule>
         ensures { ruled result ≡ first_of (lift_tests (G.Ground.meaning self.now.floor) (scene_of G.Ground.meaning self.now).columns from to) }
     {
         let (here, there) = self.may_change(from, to, false)?;
-        ensure(u16::from(there.height) == u16::from(here.height) + 1, Rule::WrongHeights)
+        ensure(
+            u16::from(there.height) == u16::from(here.height) + 1,
+            Rule::WrongHeights,
+        )
     }
 
     pub(crate) fn may_leave(&self, column: u16) -> Result<(), Rule>

@@ -12,7 +12,7 @@ use ground::Ground;
 use terms::{Refusal, Rule};
 use ways::Ways;
 
-// What a change may not do: the robot at this column would have no way home.
+// The robot at a column would have no way home; it is the lowest such column.
 #[derive(Clone, Copy, PartialEq, Eq, Debug)]
 pub(crate) struct Stranded {
     column: u16,
@@ -48,11 +48,14 @@ impl Drop for Trial<'_> {
 }
 
 impl Trial<'_> {
-    // The lowest column from which a robot has no way home, with the tried mark standing.
-    fn lowest_stranded<G: Ground>(&self, ground: &G, columns: &[Column]) -> Option<u16>
-        ensures { result ≡ lowest_stranded (G.Ground.meaning ground.now) columns.now (lying columns.now (marked self.now.marks.now)) }
+    // Refuses where a robot has no way home with the tried mark standing.
+    fn all_home<G: Ground>(&self, ground: &G, columns: &[Column]) -> Result<(), Stranded>
+        ensures { stranded_in result ≡ lowest_stranded (G.Ground.meaning ground.now) columns.now (lying columns.now (marked self.now.marks.now)) }
     {
-        lowest_stranded(ground, columns, self.marks)
+        match lowest_stranded(ground, columns, self.marks) {
+            Some(column) => Err(Stranded { column }),
+            None => Ok(()),
+        }
     }
 
     // Ends the trial, and leaves the mark standing: a grant.
@@ -79,9 +82,8 @@ fn lowest_stranded<G: Ground>(ground: &G, columns: &[Column], marks: &[u8]) -> O
 fn is_stranded(columns: &[Column], ways: &Ways, column: u16) -> bool
     ensures { result ≡ stranded_by columns.now (steps_in ways.now) column }
 {
-    columns
-        .get(usize::from(column))
-        .is_some_and(|here| here.state.has_robot() && ways.steps(column).is_none())
+    columns.get(usize::from(column)).is_some_and(|here| here.state.has_robot()
+        && ways.steps(column).is_none())
 }
 
 // Marks a column as changing, unless a robot then has no way home: the lowest column of such a robot is told, and no mark is left.
@@ -103,9 +105,7 @@ pub(crate) fn try_change<G: Ground>(
         column: at,
         before,
     };
-    if let Some(column) = trial.lowest_stranded(ground, columns) {
-        return Err(Stranded { column });
-    }
+    trial.all_home(ground, columns)?;
     trial.keep();
     Ok(())
 }

@@ -14,7 +14,7 @@ pub sum-requires-clause-fits : goal.sum-requires-clause-fits
 sum-requires-clause-fits g c =
     let law = g.met.G.Ground.lawful c.args.self.now.floor in
     let few : length (vec_items c.args.self.now.columns) ≤ 256 = omega (arith, law.few, c.args.self.now.columns.ok.0, c.args.self.now.one_each) in
-    fits_from_length _ _ 256 _ (at_most_from_yields_List (YieldsList-from_slice (vec_items c.args.self.now.columns) cc) few) c.map.ensures.closure (omega arith) (λ x r q k. search (rules, tests))
+    fits_from_length _ _ 256 _ (at_most_from_yields_List (YieldsList-from_slice (vec_items c.args.self.now.columns) cc) few) c.map-heights.ensures.closure (omega arith) (λ x r q k. search (rules, tests))
 
 pub returns : goal.returns
 returns g c =

@@ -1,4 +1,4 @@
-use Rattle.std.proofs.Common.{◌≡◌, ◌<◌, Some, rules, sym, ap, ◌∙◌, arith}
+use Rattle.std.proofs.Common.{◌≡◌, Some, rules, ap, ◌∙◌}
 use Rattle.terms.specs.Refusals.{told, refusal_in}
 use Rattle.gate.specs.declared.call.Call.TheVariants.{Lift}
 use Rattle.gate.specs.declared.column.Part.TheVariants.{Lifting, Sinking}
@@ -6,7 +6,7 @@ use Rattle.gate.specs.Scene.{tried}
 use Rattle.gate.specs.Gate.{lowest_stranded, lift_tests, changing, settle}
 use Rattle.gate.specs.View.{scene_of}
 use Rattle.gate.proofs.Deciding.{performed, refused}
-use Rattle.gate.proofs.Trying.{by_tests, by_trial, lift_on}
+use Rattle.gate.proofs.Trying.{by_tests, by_trial}
 use Rattle.gate.proofs.site.Site.lift.Goals as goal
 
 pub returns-in_err-may_lift : goal.returns-in_err-may_lift
@@ -16,12 +16,6 @@ returns-in_err-may_lift g c =
     let is : refusal_in c.from_residual.result ≡ Some t = search rules in
     refused v (g.met.G.Ground.lawful c.args.self.now.floor) (Lift c.args.from c.args.to) (refusal_in c.from_residual.result) t is
     (by_tests (lift_tests v.meaning v.columns c.args.from c.args.to) (lowest_stranded v.meaning v.columns (tried v c.args.to)) c.in_err-may_lift.ensures)
-
-pub change-requires : goal.change-requires
-change-requires g c =
-    let v = scene_of g.G.Ground.meaning c.args.self.now in
-    let on = lift_on v.meaning v.settings v.columns c.args.from c.args.to c.in_ok-may_lift.ensures in
-    omega (arith, on, (g.met.G.Ground.lawful c.args.self.now.floor).few)
 
 pub returns : goal.returns
 returns g c =

@@ -1,5 +1,5 @@
-use Rattle.std.proofs.Common.{◌≡◌, ℕ, Some, None, Ok, Err, Option, rules, sym, ap, ◌∙◌}
-use Rattle.terms.specs.Refusals.{told_of, told}
+use Rattle.std.proofs.Common.{◌≡◌, Some, None, Ok, Err, rules, sym, ap, ◌∙◌}
+use Rattle.terms.specs.Refusals.{told}
 use Rattle.terms.specs.declared.refusal.Rule.TheVariants.{NoRobot}
 use Rattle.ways.specs.Table.{steps}
 use Rattle.ways.specs.View.{marked, steps_in}

@@ -1,4 +1,4 @@
-use Rattle.std.proofs.Common.{◌≡◌, rules, vec_items, length, sym, ap, ◌∙◌}
+use Rattle.std.proofs.Common.{◌≡◌, rules, vec_items, sym, ap, ◌∙◌}
 use Rattle.std.specs.List.{count_by}
 use Rattle.std.proofs.iter.runs.Made.{chains}
 use Rattle.gate.specs.declared.column.Column.{Column}

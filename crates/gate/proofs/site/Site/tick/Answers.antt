@@ -1,4 +1,4 @@
-use Rattle.std.proofs.Common.{◌≡◌, ℕ, None, length, vec_items, refl, sym, ap, ◌∙◌, arith}
+use Rattle.std.proofs.Common.{ℕ, None, length, refl, sym, ap, ◌∙◌}
 use Rattle.gate.specs.declared.call.Call.TheVariants.{Tick}
 use Rattle.gate.specs.Scene.{Scene, Columns, renewed_marks, with_marks}
 use Rattle.gate.specs.View.{scene_of}
