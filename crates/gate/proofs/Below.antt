@@ -1,13 +1,12 @@
 -- Sums and searches below a number, and what chains find. Assumes nothing.
 use Rattle.std.proofs.Common.{◌≡◌, ℕ, zero, suc, ◌+◌, ◌<◌, ◌≤◌, Bool, true, false, cond, ◌||◌, List, length, get_or, take, Some, None, MatchOption, Decides, Option, sym, refl, ap, ◌∙◌, inl, inr, add-one, arith}
-use Rattle.std.specs.List.{sum_by, count_by, list_any, fold, range_with_len}
+use Rattle.std.specs.List.{sum_by, count_by, list_any, range_with_len}
 use Rattle.std.proofs.lemmas.List.{take_all}
-use Rattle.std.proofs.lemmas.List.Sums.{sum_by_more, fold_more}
+use Rattle.std.proofs.lemmas.List.Sums.{sum_by_more}
 use Rattle.std.proofs.lemmas.List.Folds.{list_any_more}
 use Rattle.std.proofs.lemmas.List.FromFn.{length-range_with_len, get_or-range_with_len}
 use Rattle.std.proofs.lemmas.Bool.{both_ways, cases_lt}
 use Rattle.ways.proofs.Firsts.{first_some, first_there}
-use Rattle.gate.specs.Recall.{better, best_below}
 use Rattle.gate.proofs.Sums.{sum_same}
 use Rattle.std.proofs.lemmas.Bool.{or_from}
 use Rattle.std.proofs.lemmas.Bool.Decides.{Decides-below_or}
@@ -62,21 +61,6 @@ pub sum_ranged : (f : ℕ → ℕ) (n : ℕ) → sum_by f (range_with_len 0 n) �
 sum_ranged f n =
     sum_listed (range_with_len 0 n) 0 f ∙ ap (sum_below (λ c. f (get_or (range_with_len 0 n) c 0))) (length-range_with_len 0 n)
     ∙ sum_same (λ c. f (get_or (range_with_len 0 n) c 0)) f n (λ k l. ap f (get_or-range_with_len 0 n k 0 l ∙ omega arith))
-
-module _ (f : ℕ → Option ℕ) (n : ℕ) where
-  abbrev pick : Option (ℕ × ℕ) → ℕ → Option (ℕ × ℕ)
-  pick best c = better best c (f c)
-
-  best_taken : (k : ℕ) → k ≤ n → fold pick None (take k (range_with_len 0 n)) ≡ best_below f k
-  best_taken zero h = refl
-  best_taken (suc k) h =
-      let at : get_or (range_with_len 0 n) k 0 ≡ k = get_or-range_with_len 0 n k 0 (omega arith) ∙ omega arith in
-      ap (λ j. fold pick None (take j (range_with_len 0 n))) (sym (add-one k))
-      ∙ fold_more pick None (range_with_len 0 n) k 0 (omega (arith, length-range_with_len 0 n))
-      ∙ ap (pick (fold pick None (take k (range_with_len 0 n)))) at ∙ ap (λ b. pick b k) (best_taken k (omega arith))
-
-  pub best_ranged : fold pick None (range_with_len 0 n) ≡ best_below f n
-  best_ranged = ap (fold pick None) (sym (take_all n (range_with_len 0 n) (omega (arith, length-range_with_len 0 n)))) ∙ best_taken n (omega arith)
 
 -- the first number that passes a test
 pub found_first : (p : ℕ → Bool) (n : ℕ) (o : Option ℕ)

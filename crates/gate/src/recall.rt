@@ -1,7 +1,7 @@
 // Recall: which robot goes home next, and how.
 ghost use Rattle.std.specs.Prelude.{◌≡◌, ◌≤◌};
 ghost use Rattle.ways.specs.View.{steps_in};
-ghost use Rattle.gate.specs.Recall.{robot_steps, better, best_below, cost_of, toll, next_by, any_runs, recall, recall_of, Homeward, Recalled};
+ghost use Rattle.gate.specs.Recall.{robot_steps, best_below, cost_of, toll, next_by, any_runs, recall, recall_of, Homeward, Recalled};
 ghost use Rattle.gate.specs.View.{scene_of};
 
 use crate::order::{Next, Order};
@@ -9,16 +9,6 @@ use crate::site::Site;
 use ground::Ground;
 use terms::{Refusal, Rule};
 use ways::Ways;
-
-// Of the best column so far and another the one with fewer steps, the first where they have as many.
-fn better(best: Option<(u16, u16)>, column: u16, steps: Option<u16>) -> Option<(u16, u16)>
-    ensures { result ≡ better best column steps }
-{
-    match steps {
-        Some(steps) if best.is_none_or(|(_, fewest)| steps < fewest) => Some((column, steps)),
-        _ => best,
-    }
-}
 
 impl<G: Ground> Site<G> {
     // Whether an action runs.
@@ -39,14 +29,13 @@ impl<G: Ground> Site<G> {
         }
     }
 
-    // The column of the robot with the fewest steps home, and these steps.
+    // The column of the robot with the fewest steps home, the lowest where several have as many, and these steps.
     fn nearest(&self, ways: &Ways) -> Option<(u16, u16)>
         ensures { result ≡ best_below (robot_steps (scene_of G.Ground.meaning self.now).columns (steps_in ways.now)) (G.Ground.meaning self.now.floor).columns }
     {
-        (0..self.floor.columns()).fold(
-            None,
-            |best, column| better(best, column, self.robot_steps(ways, column)),
-        )
+        (0..self.floor.columns())
+            .filter_map(|column| self.robot_steps(ways, column).map(|steps| (column, steps)))
+            .min_by_key(|(_, steps)| *steps)
     }
 
     // How many actions the robots have still to do: each its steps home, and the leave.
