@@ -10,7 +10,6 @@ ghost use Rattle.gate.specs.Words.{Performed};
 ghost use Rattle.gate.specs.View.{scene_of};
 
 use crate::column::{Column, Part, State};
-use crate::opening::lay_out;
 use crate::plot::Plot;
 use crate::site::Site;
 use crate::trial::try_change;
@@ -22,7 +21,7 @@ impl<G: Ground> Site<G> {
     pub fn open(plot: Plot, ground: G, settings: Settings) -> Site<G>
         ensures { scene_of G.Ground.meaning result ≡ opened (G.Ground.meaning ground) (settings_of settings) }
     {
-        let columns = lay_out(plot.columns.into_vec(), ground.columns());
+        let columns = plot.lay_out(ground.columns());
         Site {
             floor: ground,
             settings,
@@ -134,23 +133,16 @@ impl<G: Ground> Site<G> {
         Ok(())
     }
 
-    // Every column goes on from its own state.
-    fn tick_columns(&mut self)
-        ensures { scene_of G.Ground.meaning self.new ≡ with_columns (scene_of G.Ground.meaning self.old) (tick_all (scene_of G.Ground.meaning self.old).columns) }
-    {
-        tick_all(&mut self.columns);
-    }
-
     // One timestep passes; it is never refused.
     pub fn tick(&mut self)
         ensures { Performed (scene_of G.Ground.meaning self.old) Tick None (scene_of G.Ground.meaning self.new) }
     {
-        self.tick_columns();
+        tick_all(&mut self.columns);
         renew_marks(&self.columns, &mut self.marks);
     }
 }
 
-// One tick of each column.
+// One tick of each column: it goes on from its own state.
 fn tick_all(columns: &mut [Column])
     ensures { columns.new ≡ tick_all columns.old }
 {

@@ -1,4 +1,7 @@
 // Room for the columns of a site, made before it is opened.
+ghost use Rattle.std.specs.Prelude.{◌≡◌, ◌≤◌, replicate};
+ghost use Rattle.gate.specs.Column.{fresh};
+
 use crate::column::Column;
 use std::alloc::{AllocError, Global};
 use terms::Reserve;
@@ -16,5 +19,16 @@ impl Plot {
     pub fn new(heap: Global) -> Result<Plot, AllocError> {
         let columns = Reserve::new(heap)?;
         Ok(Plot { columns })
+    }
+    // As many columns as are asked for, free and at height 0, in the room that is there.
+    pub(crate) fn lay_out(self, count: u16) -> Vec<Column>
+        requires { count ≤ 256 }
+        ensures { result.items ≡ replicate count fresh }
+    {
+        let mut columns = self.columns.into_vec();
+        columns
+            .resize(usize::from(count), Column::default())
+            .unwrap();
+        columns
     }
 }
