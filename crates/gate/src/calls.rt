@@ -19,7 +19,7 @@ use terms::{Refusal, Settings, Work};
 impl<G: Ground> Site<G> {
     // Opens a site: no robot on it, all heights 0. Its room is there already, and no later call allocates.
     pub fn open(plot: Plot, ground: G, settings: Settings) -> Site<G>
-        ensures { scene_of G.Ground.meaning result ≡ opened (G.Ground.meaning ground) (settings_of settings) }
+        ensures { scene_of result ≡ opened (G.Ground.meaning ground) (settings_of settings) }
     {
         let columns = plot.lay_out(ground.columns());
         Site {
@@ -32,7 +32,7 @@ impl<G: Ground> Site<G> {
 
     // Puts a column into a state, at the height that it has.
     fn put(&mut self, column: u16, state: State)
-        ensures { scene_of G.Ground.meaning self.new ≡ with_columns (scene_of G.Ground.meaning self.old) (put (scene_of G.Ground.meaning self.old).columns column state) }
+        ensures { scene_of self.new ≡ with_columns (scene_of self.old) (put (scene_of self.old).columns column state) }
     {
         if let Some(here) = self.columns.get_mut(usize::from(column)) {
             here.state = state;
@@ -41,7 +41,7 @@ impl<G: Ground> Site<G> {
 
     // Begins the two parts of an action.
     fn begin(&mut self, from: u16, here: Part, to: u16, there: Part, left: u8)
-        ensures { scene_of G.Ground.meaning self.new ≡ with_columns (scene_of G.Ground.meaning self.old) (put (put (scene_of G.Ground.meaning self.old).columns from (Busy here left)) to (Busy there left)) }
+        ensures { scene_of self.new ≡ with_columns (scene_of self.old) (put (put (scene_of self.old).columns from (Busy here left)) to (Busy there left)) }
     {
         self.put(from, State::Busy { part: here, left });
         self.put(to, State::Busy { part: there, left });
@@ -57,8 +57,8 @@ impl<G: Ground> Site<G> {
         left: u8,
     ) -> Result<(), Refusal>
         requires { to < 256 }
-        ensures answer { refusal_in result ≡ first_of (strands (lowest_stranded (G.Ground.meaning self.old.floor) (scene_of G.Ground.meaning self.old).columns (tried (scene_of G.Ground.meaning self.old) to)) ∷ []) }
-        ensures after { scene_of G.Ground.meaning self.new ≡ settle (refusal_in result) (changing (scene_of G.Ground.meaning self.old) from here to there left) (scene_of G.Ground.meaning self.old) }
+        ensures answer { refusal_in result ≡ first_of (strands (lowest_stranded (scene_of self.old).meaning (scene_of self.old).columns (tried (scene_of self.old) to)) ∷ []) }
+        ensures after { scene_of self.new ≡ settle (refusal_in result) (changing (scene_of self.old) from here to there left) (scene_of self.old) }
     {
         try_change(&self.floor, &self.columns, &mut self.marks, to)?;
         self.begin(from, here, to, there, left);
@@ -67,7 +67,7 @@ impl<G: Ground> Site<G> {
 
     // A robot enters at a border column, with or without a block.
     pub fn enter(&mut self, column: u16, block: bool) -> Result<(), Refusal>
-        ensures { Performed (scene_of G.Ground.meaning self.old) (Enter column block) (refusal_in result) (scene_of G.Ground.meaning self.new) }
+        ensures { Performed (scene_of self.old) (Enter column block) (refusal_in result) (scene_of self.new) }
     {
         self.may_enter(column, block)?;
         let left = self.settings.duration(Work::Entry, block);
@@ -83,7 +83,7 @@ impl<G: Ground> Site<G> {
 
     // A robot moves to a linked column.
     pub fn move_to(&mut self, from: u16, to: u16) -> Result<(), Refusal>
-        ensures { Performed (scene_of G.Ground.meaning self.old) (Move from to) (refusal_in result) (scene_of G.Ground.meaning self.new) }
+        ensures { Performed (scene_of self.old) (Move from to) (refusal_in result) (scene_of self.new) }
     {
         self.may_move(from, to)?;
         let block = self.look(from).state.has_block();
@@ -100,7 +100,7 @@ impl<G: Ground> Site<G> {
 
     // A robot lays its block on a linked column.
     pub fn lay(&mut self, from: u16, to: u16) -> Result<(), Refusal>
-        ensures { Performed (scene_of G.Ground.meaning self.old) (Lay from to) (refusal_in result) (scene_of G.Ground.meaning self.new) }
+        ensures { Performed (scene_of self.old) (Lay from to) (refusal_in result) (scene_of self.new) }
     {
         self.may_lay(from, to)?;
         let left = self.settings.duration(Work::Deliver, true);
@@ -109,7 +109,7 @@ impl<G: Ground> Site<G> {
 
     // A robot lifts a block from a linked column.
     pub fn lift(&mut self, from: u16, to: u16) -> Result<(), Refusal>
-        ensures { Performed (scene_of G.Ground.meaning self.old) (Lift from to) (refusal_in result) (scene_of G.Ground.meaning self.new) }
+        ensures { Performed (scene_of self.old) (Lift from to) (refusal_in result) (scene_of self.new) }
     {
         self.may_lift(from, to)?;
         let left = self.settings.duration(Work::PickUp, false);
@@ -118,7 +118,7 @@ impl<G: Ground> Site<G> {
 
     // A robot leaves from a border column, and its block with it.
     pub fn leave(&mut self, column: u16) -> Result<(), Refusal>
-        ensures { Performed (scene_of G.Ground.meaning self.old) (Leave column) (refusal_in result) (scene_of G.Ground.meaning self.new) }
+        ensures { Performed (scene_of self.old) (Leave column) (refusal_in result) (scene_of self.new) }
     {
         self.may_leave(column)?;
         let block = self.look(column).state.has_block();
@@ -135,7 +135,7 @@ impl<G: Ground> Site<G> {
 
     // One timestep passes; it is never refused.
     pub fn tick(&mut self)
-        ensures { Performed (scene_of G.Ground.meaning self.old) Tick None (scene_of G.Ground.meaning self.new) }
+        ensures { Performed (scene_of self.old) Tick None (scene_of self.new) }
     {
         tick_all(&mut self.columns);
         renew_marks(&self.columns, &mut self.marks);

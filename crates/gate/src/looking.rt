@@ -10,7 +10,7 @@ use ground::Ground;
 impl<G: Ground> Site<G> {
     // The height of a column and what is at it; past the columns all is free, at height 0.
     pub fn look(&self, column: u16) -> Column
-        ensures { result ≡ at (scene_of G.Ground.meaning self.now).columns column }
+        ensures { result ≡ at (scene_of self.now).columns column }
     {
         self.columns
             .get(usize::from(column))
@@ -20,7 +20,7 @@ impl<G: Ground> Site<G> {
 
     // How many robots are on the site, each from its granted enter until its leave ends.
     pub fn robots(&self) -> u16
-        ensures { result ≡ robots (G.Ground.meaning self.now.floor) (scene_of G.Ground.meaning self.now).columns }
+        ensures { result ≡ robots (scene_of self.now).meaning (scene_of self.now).columns }
     {
         let robots = self.columns.iter().filter(|here| here.state.has_robot());
         robots.count() as u16
@@ -28,7 +28,7 @@ impl<G: Ground> Site<G> {
 
     // How many blocks stand on the site.
     pub fn blocks_standing(&self) -> u32
-        ensures { result ≡ blocks_standing (G.Ground.meaning self.now.floor) (scene_of G.Ground.meaning self.now).columns }
+        ensures { result ≡ blocks_standing (scene_of self.now).meaning (scene_of self.now).columns }
     {
         let heights = self.columns.iter().map(|here| u32::from(here.height));
         heights.sum()
@@ -36,7 +36,7 @@ impl<G: Ground> Site<G> {
 
     // How many robots on the site have a block.
     pub fn blocks_carried(&self) -> u16
-        ensures { result ≡ blocks_carried (G.Ground.meaning self.now.floor) (scene_of G.Ground.meaning self.now).columns }
+        ensures { result ≡ blocks_carried (scene_of self.now).meaning (scene_of self.now).columns }
     {
         let loaded = self.columns.iter().filter(|here| here.state.has_block());
         loaded.count() as u16

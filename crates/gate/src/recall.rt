@@ -13,14 +13,14 @@ use ways::Ways;
 impl<G: Ground> Site<G> {
     // Whether an action runs.
     fn any_runs(&self) -> bool
-        ensures { result ≡ any_runs (G.Ground.meaning self.now.floor) (scene_of G.Ground.meaning self.now).columns }
+        ensures { result ≡ any_runs (scene_of self.now).meaning (scene_of self.now).columns }
     {
         self.columns.iter().any(|here| here.state.runs())
     }
 
     // The steps home of the robot at a column, if one is there and has a way.
     fn robot_steps(&self, ways: &Ways, column: u16) -> Option<u16>
-        ensures { result ≡ robot_steps (scene_of G.Ground.meaning self.now).columns (steps_in ways.now) column }
+        ensures { result ≡ robot_steps (scene_of self.now).columns (steps_in ways.now) column }
     {
         if self.look(column).state.has_robot() {
             ways.steps(column)
@@ -31,7 +31,7 @@ impl<G: Ground> Site<G> {
 
     // The column of the robot with the fewest steps home, the lowest where several have as many, and these steps.
     fn nearest(&self, ways: &Ways) -> Option<(u16, u16)>
-        ensures { result ≡ best_below (robot_steps (scene_of G.Ground.meaning self.now).columns (steps_in ways.now)) (G.Ground.meaning self.now.floor).columns }
+        ensures { result ≡ best_below (robot_steps (scene_of self.now).columns (steps_in ways.now)) (scene_of self.now).meaning.columns }
     {
         (0..self.floor.columns())
             .filter_map(|column| self.robot_steps(ways, column).map(|steps| (column, steps)))
@@ -40,7 +40,7 @@ impl<G: Ground> Site<G> {
 
     // How many actions the robots have still to do: each its steps home, and the leave.
     fn toll(&self, ways: &Ways) -> u32
-        ensures { result ≡ toll (G.Ground.meaning self.now.floor) (scene_of G.Ground.meaning self.now).columns (steps_in ways.now) }
+        ensures { result ≡ toll (scene_of self.now).meaning (scene_of self.now).columns (steps_in ways.now) }
     {
         (0..self.floor.columns())
             .map(|column| cost(self.robot_steps(ways, column)))
@@ -49,7 +49,7 @@ impl<G: Ground> Site<G> {
 
     // What the robot at a column does next, so many steps from home.
     fn next(&self, ways: &Ways, column: u16, steps: u16) -> Next
-        ensures { result ≡ next_by (G.Ground.meaning self.now.floor) (scene_of G.Ground.meaning self.now).columns (steps_in ways.now) column steps }
+        ensures { result ≡ next_by (scene_of self.now).meaning (scene_of self.now).columns (steps_in ways.now) column steps }
     {
         if steps == 0 {
             return Next::Leaves;
@@ -60,8 +60,8 @@ impl<G: Ground> Site<G> {
 
     // The next action on the way to an empty site. It starts nothing.
     pub fn recall(&self) -> Result<Order, Refusal>
-        ensures value { recall_of result ≡ recall (scene_of G.Ground.meaning self.now) }
-        ensures words { Homeward (scene_of G.Ground.meaning self.now) → Recalled (scene_of G.Ground.meaning self.now) (recall_of result) }
+        ensures value { recall_of result ≡ recall (scene_of self.now) }
+        ensures words { Homeward (scene_of self.now) → Recalled (scene_of self.now) (recall_of result) }
     {
         if self.any_runs() {
             return Err(Rule::ActionRuns.into());

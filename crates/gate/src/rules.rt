@@ -23,14 +23,14 @@ fn ensure(holds: bool, rule: Rule) -> Result<(), Rule>
 impl<G: Ground> Site<G> {
     // A column of the ground.
     fn column(&self, column: u16) -> Result<Column, Rule>
-        ensures { result ≡ (if off (G.Ground.meaning self.now.floor) column then Err NoColumn else Ok (at (scene_of G.Ground.meaning self.now).columns column)) }
+        ensures { result ≡ (if off (scene_of self.now).meaning column then Err NoColumn else Ok (at (scene_of self.now).columns column)) }
     {
         ensure(column < self.floor.columns(), Rule::NoColumn)?;
         Ok(self.look(column))
     }
 
     pub(crate) fn may_enter(&self, column: u16, block: bool) -> Result<(), Rule>
-        ensures { ruled result ≡ refusal (scene_of G.Ground.meaning self.now) (Enter column block) }
+        ensures { ruled result ≡ refusal (scene_of self.now) (Enter column block) }
     {
         let here = self.column(column)?;
         ensure(self.floor.is_border(column), Rule::NoLink)?;
@@ -42,7 +42,7 @@ impl<G: Ground> Site<G> {
     }
 
     pub(crate) fn may_move(&self, from: u16, to: u16) -> Result<(), Rule>
-        ensures { ruled result ≡ refusal (scene_of G.Ground.meaning self.now) (Move from to) }
+        ensures { ruled result ≡ refusal (scene_of self.now) (Move from to) }
     {
         let here = self.column(from)?;
         let there = self.column(to)?;
@@ -54,8 +54,8 @@ impl<G: Ground> Site<G> {
 
     // What a lay and a lift ask alike: a robot that stands there, with a block or without, and a free column inside to work on.
     fn may_change(&self, from: u16, to: u16, block: bool) -> Result<(Column, Column), Rule>
-        ensures rule { ruled result ≡ first_of (change_tests (G.Ground.meaning self.now.floor) (scene_of G.Ground.meaning self.now).columns block from to) }
-        ensures columns { IfOk result (λ both. both ≡ (at (scene_of G.Ground.meaning self.now).columns from, at (scene_of G.Ground.meaning self.now).columns to)) }
+        ensures rule { ruled result ≡ first_of (change_tests (scene_of self.now).meaning (scene_of self.now).columns block from to) }
+        ensures columns { IfOk result (λ both. both ≡ (at (scene_of self.now).columns from, at (scene_of self.now).columns to)) }
     {
         let here = self.column(from)?;
         let there = self.column(to)?;
@@ -70,7 +70,7 @@ impl<G: Ground> Site<G> {
     }
 
     pub(crate) fn may_lay(&self, from: u16, to: u16) -> Result<(), Rule>
-        ensures { ruled result ≡ first_of (lay_tests (G.Ground.meaning self.now.floor) (scene_of G.Ground.meaning self.now).settings (scene_of G.Ground.meaning self.now).columns from to) }
+        ensures { ruled result ≡ first_of (lay_tests (scene_of self.now).meaning (scene_of self.now).settings (scene_of self.now).columns from to) }
     {
         let (here, there) = self.may_change(from, to, true)?;
         let is_below_top = u16::from(there.height) + 1 < u16::from(self.settings.levels());
@@ -81,7 +81,7 @@ impl<G: Ground> Site<G> {
     }
 
     pub(crate) fn may_lift(&self, from: u16, to: u16) -> Result<(), Rule>
-        ensures { ruled result ≡ first_of (lift_tests (G.Ground.meaning self.now.floor) (scene_of G.Ground.meaning self.now).columns from to) }
+        ensures { ruled result ≡ first_of (lift_tests (scene_of self.now).meaning (scene_of self.now).columns from to) }
     {
         let (here, there) = self.may_change(from, to, false)?;
         ensure(
@@ -91,7 +91,7 @@ impl<G: Ground> Site<G> {
     }
 
     pub(crate) fn may_leave(&self, column: u16) -> Result<(), Rule>
-        ensures { ruled result ≡ refusal (scene_of G.Ground.meaning self.now) (Leave column) }
+        ensures { ruled result ≡ refusal (scene_of self.now) (Leave column) }
     {
         let here = self.column(column)?;
         ensure(here.state.stands(), Rule::NoStandingRobot)?;

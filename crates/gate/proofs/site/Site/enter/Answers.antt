@@ -9,4 +9,4 @@ pub returns-in_err-may_enter : goal.returns-in_err-may_enter
 returns-in_err-may_enter g c =
     let t = told c.in_err-may_enter.field-0.0 0 0 in
     let is : refusal_in c.from_residual.result ≡ Some t = search rules in
-    refused (scene_of g.G.Ground.meaning c.args.self.now) (g.met.G.Ground.lawful c.args.self.now.floor) (Enter c.args.column c.args.block) (refusal_in c.from_residual.result) t is c.in_err-may_enter.ensures
+    refused (scene_of c.args.self.now) (g.met.G.Ground.lawful c.args.self.now.floor) (Enter c.args.column c.args.block) (refusal_in c.from_residual.result) t is c.in_err-may_enter.ensures

@@ -11,7 +11,7 @@ use Rattle.gate.proofs.site.Site.lift.Goals as goal
 
 pub returns-in_err-may_lift : goal.returns-in_err-may_lift
 returns-in_err-may_lift g c =
-    let v = scene_of g.G.Ground.meaning c.args.self.now in
+    let v = scene_of c.args.self.now in
     let t = told c.in_err-may_lift.field-0.0 0 0 in
     let is : refusal_in c.from_residual.result ≡ Some t = search rules in
     refused v (g.met.G.Ground.lawful c.args.self.now.floor) (Lift c.args.from c.args.to) (refusal_in c.from_residual.result) t is
@@ -19,8 +19,8 @@ returns-in_err-may_lift g c =
 
 pub returns : goal.returns
 returns g c =
-    let v = scene_of g.G.Ground.meaning c.args.self.now in
+    let v = scene_of c.args.self.now in
     let o = refusal_in c.change.result in
-    performed v (g.met.G.Ground.lawful c.args.self.now.floor) (Lift c.args.from c.args.to) o (scene_of g.G.Ground.meaning c.change.new.self)
+    performed v (g.met.G.Ground.lawful c.args.self.now.floor) (Lift c.args.from c.args.to) o (scene_of c.change.new.self)
     (by_trial (lift_tests v.meaning v.columns c.args.from c.args.to) (lowest_stranded v.meaning v.columns (tried v c.args.to)) o c.in_ok-may_lift.ensures c.change.ensures.answer)
     (c.change.ensures.after ∙ ap (λ n. settle o (changing v c.args.from (Lifting c.args.to) c.args.to (Sinking c.args.from) n) v) c.duration-left.ensures.value)

@@ -9,4 +9,4 @@ pub returns-in_err-may_move : goal.returns-in_err-may_move
 returns-in_err-may_move g c =
     let t = told c.in_err-may_move.field-0.0 0 0 in
     let is : refusal_in c.from_residual.result ≡ Some t = search rules in
-    refused (scene_of g.G.Ground.meaning c.args.self.now) (g.met.G.Ground.lawful c.args.self.now.floor) (Move c.args.from c.args.to) (refusal_in c.from_residual.result) t is c.in_err-may_move.ensures
+    refused (scene_of c.args.self.now) (g.met.G.Ground.lawful c.args.self.now.floor) (Move c.args.from c.args.to) (refusal_in c.from_residual.result) t is c.in_err-may_move.ensures

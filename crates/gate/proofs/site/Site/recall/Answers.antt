@@ -13,14 +13,14 @@ use Rattle.gate.proofs.site.Site.recall.Goals as goal
 
 pub returns-then-any_runs : goal.returns-then-any_runs
 returns-then-any_runs g c =
-    let v = scene_of g.G.Ground.meaning c.args.self.now in
+    let v = scene_of c.args.self.now in
     let r = recall_of (Err c.into.result) in
     let e = busy v (sym c.any_runs.ensures ∙ c.if-any_runs.true) r (ap Err c.into.ensures) in
     record { value = e; words = λ h. rightly v (g.met.G.Ground.lawful c.args.self.now.floor) h r e }
 
 pub returns-in_err-column : goal.returns-in_err-column
 returns-in_err-column g c =
-    let v = scene_of g.G.Ground.meaning c.args.self.now in
+    let v = scene_of c.args.self.now in
     let f = steps_in c.search-ways.result in
     let same = steps_same v.meaning c.deref.result.now v.marks f c.search-ways.ensures.value
     ∙ ap (λ (xs : Columns). steps v.meaning (lying xs (marked v.marks))) c.deref.ensures.value in
@@ -32,7 +32,7 @@ returns-in_err-column g c =
 
 pub returns : goal.returns
 returns g c =
-    let v = scene_of g.G.Ground.meaning c.args.self.now in
+    let v = scene_of c.args.self.now in
     let f = steps_in c.search-ways.result in
     let same = steps_same v.meaning c.deref.result.now v.marks f c.search-ways.ensures.value
     ∙ ap (λ (xs : Columns). steps v.meaning (lying xs (marked v.marks))) c.deref.ensures.value in

@@ -10,7 +10,7 @@ use Rattle.gate.proofs.site.Site.tick.Goals as goal
 
 pub returns : goal.returns
 returns g c =
-    let v = scene_of g.G.Ground.meaning c.args.self.now in
+    let v = scene_of c.args.self.now in
     let after = tick_all v.columns in
     let xs = vec_items (with_items c.args.self.now.columns c.tick_all.new.columns) in
     let kept : vec_items (with_items c.args.self.now.columns c.tick_all.new.columns) ≡ tick_all (vec_items c.args.self.now.columns) = search (rules, with_items_is, length-map) in
