@@ -160,3 +160,6 @@ module _ (v : Scene) (law : Lawful v.meaning) where
   performed k o w e f =
       let P : Option Told → Type 0 = Decided v k in
       record { value = e; after = f ∙ ap (λ x. settle x (grant v k) v) e; words = subst P (sym e) (decided k); unaltered = λ t i. f ∙ ap (λ x. settle x (grant v k) v) i }
+
+  pub refused : (k : Call) (o : Option Told) (t : Told) → o ≡ Some t → Some t ≡ refusal v k → Performed v k o v
+  refused k o t e f = performed k o v (e ∙ f) (ap (λ x. settle x (grant v k) v) (sym e))

@@ -6,3 +6,4 @@ pub mod Marks
 pub mod Sums
 pub mod Picks
 pub mod Recalling
+pub mod Least

@@ -1,4 +1,6 @@
 // A site over any ground.
+ghost use Rattle.std.specs.Prelude.{◌≡◌, vec_len};
+
 use crate::column::Column;
 use ground::Ground;
 use terms::Settings;
@@ -6,8 +8,9 @@ use terms::Settings;
 // The columns have heights and states; the marks say which columns are changing.
 #[derive(Drop)]
 pub struct Site<G: Ground> {
-    pub(crate) ground: G,
+    pub(crate) floor: G,
     pub(crate) settings: Settings,
     pub(crate) columns: Vec<Column>,
     pub(crate) marks: [u8; 256],
+    ghost one_each: { vec_len columns ≡ (G.Ground.meaning floor).columns },
 }
