@@ -1,5 +1,5 @@
 // Examples of the gate and of recall, on a square and on a listed ground.
-use crate::request::Request;
+use crate::{Performance, Request, Stage, perform};
 use gate::{Call, Next, Plot, Site};
 use ground::{Ground, Listed, Square};
 use std::process::Abort;
@@ -236,4 +236,22 @@ fn in_as_another_has_left(rt: HostRuntime) -> Result<(), Fail> {
     follow(&rt, &mut site, &rows);
     assert_eq!(rt; site.blocks_carried(), 1);
     obey(&rt, &mut site, 1)
+}
+
+// A list of calls from the opening: the second and the third come while the robot still enters.
+#[test]
+fn a_list_of_calls(rt: HostRuntime) -> Result<(), Fail> {
+    let mut calls = Vec::new(rt.alloc());
+    for call in [enter(1, true), lay(1, 4), Call::Recall] {
+        calls.push(call)?;
+    }
+    let stage = Stage::of(rt.alloc(), calls)?;
+    let Performance { site, answers } = perform(stage, Square::new(3, 3)?, Settings::new(2, 1, 3)?);
+    assert_eq!(rt; answers.len(), 3);
+    for (answer, number) in answers.iter().zip([None, Some(24), Some(31)]) {
+        let refusal = (*answer).err();
+        assert_eq!(rt; refusal.map(|refusal| refusal.rule.number()), number);
+    }
+    assert_eq!(rt; site.blocks_carried(), 1);
+    Ok(())
 }
