@@ -50,9 +50,9 @@ fn follow<G: Ground>(rt: &impl Abort, site: &mut Site<G>, rows: &[Row]) {
 
 // Obeys recall until no robot is there; each order names as many actions as are left.
 fn obey<G: Ground>(rt: &impl Abort, site: &mut Site<G>, actions: u32) -> Result<(), Fail> {
-    for k in 0..actions {
+    for left in (1..=actions).rev() {
         let order = site.recall()?;
-        assert_eq!(rt; order.left, actions - k);
+        assert_eq!(rt; order.left, left);
         let call = match order.next {
             Next::Leaves => Call::Leave {
                 column: order.column,
