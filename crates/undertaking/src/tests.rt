@@ -241,10 +241,7 @@ fn in_as_another_has_left(rt: HostRuntime) -> Result<(), Fail> {
 // A list of calls from the opening: the second and the third come while the robot still enters.
 #[test]
 fn a_list_of_calls(rt: HostRuntime) -> Result<(), Fail> {
-    let mut calls = Vec::new(rt.alloc());
-    for call in [enter(1, true), lay(1, 4), Call::Recall] {
-        calls.push(call)?;
-    }
+    let calls = vec![in rt.alloc(); enter(1, true), lay(1, 4), Call::Recall]?;
     let stage = Stage::of(rt.alloc(), calls)?;
     let Performance { site, answers } = perform(stage, Square::new(3, 3)?, Settings::new(2, 1, 3)?);
     assert_eq!(rt; answers.len(), 3);
