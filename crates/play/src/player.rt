@@ -2,6 +2,7 @@
 ghost use Rattle.std.specs.Prelude.{◌≡◌, ◌-◌, nat_lt};
 ghost use Rattle.terms.specs.Refusals.{refusal_in, told_of};
 ghost use Rattle.gate.specs.Column.{runs};
+ghost use Rattle.gate.specs.Scene.{state_at};
 ghost use Rattle.gate.specs.View.{scene_of};
 ghost use Rattle.plan.specs.View.{action_of, plan_of};
 ghost use Rattle.play.specs.Play.{call_of, called, is_fresh, longest, on_line, play, play_on, refusal_of, settled, ticks};
@@ -20,26 +21,18 @@ fn wait<G: Ground>(site: &mut Site<G>, time: u32, until: u32)
     }
 }
 
-// Whether an action runs at a column in that state.
-fn is_busy(state: State) -> bool
-    ensures { result ≡ runs state }
+// Whether an action runs at a column.
+fn is_busy<G: Ground>(site: &Site<G>, column: u16) -> bool
+    ensures { result ≡ runs (state_at (scene_of G.Ground.meaning site.now).columns column) }
 {
-    match state {
-        State::Busy { .. } => true,
-        State::Free | State::Standing { .. } => false,
-    }
+    matches!(site.look(column).state, State::Busy { .. })
 }
 
 // Whether an action runs at some column; no ground has more than 256.
 fn is_running<G: Ground>(site: &Site<G>) -> bool
     ensures { result ≡ nat_lt 0 (longest (scene_of G.Ground.meaning site.now).columns 256) }
 {
-    for column in 0..256 {
-        if is_busy(site.look(column).state) {
-            return true;
-        }
-    }
-    false
+    (0..256).any(|column| is_busy(site, column))
 }
 
 // Ticks until nothing runs.
@@ -71,7 +64,7 @@ fn call<G: Ground>(site: &mut Site<G>, action: &Action) -> Result<(), Refusal>
 fn on_line(refusal: Refusal, line: u16) -> Refusal
     ensures { told_of result ≡ on_line line (told_of refusal) }
 {
-    Refusal::at(refusal.rule, line, refusal.detail)
+    Refusal { line, ..refusal }
 }
 
 // Whether no robot is on the site, and every height is 0.
@@ -91,9 +84,7 @@ fn play_all<G: Ground>(site: &mut Site<G>, actions: &[Action]) -> Result<(), Ref
         let start = action.span.start();
         wait(site, time, start);
         time = start;
-        if let Err(refusal) = call(site, action) {
-            return Err(on_line(refusal, action.line));
-        }
+        call(site, action).map_err(|refusal| on_line(refusal, action.line))?;
     }
     settle(site);
     Ok(())
@@ -105,7 +96,7 @@ pub(crate) fn play_actions<G: Ground>(site: &mut Site<G>, actions: &[Action]) ->
     ensures after { scene_of G.Ground.meaning site.new ≡ (play_on (plan_of actions.now) (scene_of G.Ground.meaning site.old)).site }
 {
     if !is_fresh(site) {
-        return Err(Refusal::plain(Rule::NotFresh));
+        return Err(Rule::NotFresh.into());
     }
     play_all(site, actions)
 }
