@@ -1,11 +1,8 @@
 -- Laws of the drawing: it is drawn row by row, and how long it is.
-use Rattle.std.proofs.Common.{◌≡◌, ℕ, zero, suc, ◌+◌, ◌-◌, ◌*◌, ◌/◌, ◌%◌, ◌<◌, ◌≤◌, Bool, cond, min, sym, nat_le, List, [], ◌∷◌, ◌++◌, length, replicate, take, drop, decimal, refl, ap, ◌∙◌, ⊎_elim, arith, length-append, length-drop, length-take}
+use Rattle.std.proofs.Common.{◌≡◌, ℕ, zero, suc, ◌+◌, ◌*◌, ◌/◌, ◌<◌, ◌≤◌, min, List, [], ◌∷◌, ◌++◌, length, take, drop, refl, ap, ◌∙◌, arith, length-append, length-drop, length-take}
 use Rattle.std.specs.List.{flat_map}
 use Rattle.std.proofs.lemmas.List.{take_at, drop_at, take_all, drop_all, append-nil}
-use Rattle.std.proofs.lemmas.Fmt.{decimal_digit, decimal_step}
-use Rattle.std.proofs.lemmas.Bool.{cases_lt, le-leb, lt-leb}
 use Rattle.draw.specs.Rows.{cell, row_text, rows_by, text}
-use Rattle.draw.specs.Places.{justified}
 
 -- More rows than there are make no difference.
 enough : (k j : ℕ) (hs : List ℕ) → length hs ≤ k → length hs ≤ j → rows_by k hs ≡ rows_by j hs
@@ -69,38 +66,3 @@ long (suc k) (h ∷ hs) p =
 pub length_text : (hs : List ℕ) → length (text hs) ≡ 3 * length hs + (length hs + 15) / 16
 unfolding text
 length_text hs = long (length hs) hs (omega arith)
-
--- A height fills its three places as its decimal digits do.
-ones : (n : ℕ) → n < 10 → decimal n ≡ (48 + n % 10) ∷ []
-ones n h = let e : n ≡ n % 10 = omega arith in decimal_digit n h ∙ ap (λ (k : ℕ). (48 + k) ∷ []) e
-
-tens : (n : ℕ) → 10 ≤ n → n < 100 → decimal n ≡ (48 + n / 10 % 10) ∷ (48 + n % 10) ∷ []
-tens n low high = decimal_step n low (omega arith) ∙ ap (λ (l : List ℕ). l ++ ((48 + n % 10) ∷ [])) (ones (n / 10) (omega arith))
-
-hundreds : (n : ℕ) → 100 ≤ n → n < 1000 → decimal n ≡ (48 + n / 100) ∷ (48 + n / 10 % 10) ∷ (48 + n % 10) ∷ []
-hundreds n low high =
-    let e : n / 10 / 10 % 10 ≡ n / 100 = omega arith in
-    decimal_step n (omega arith) (omega arith)
-    ∙ ap (λ (l : List ℕ). l ++ ((48 + n % 10) ∷ [])) (tens (n / 10) (omega arith) (omega arith))
-    ∙ ap (λ (k : ℕ). (48 + k) ∷ (48 + n / 10 % 10) ∷ (48 + n % 10) ∷ []) e
-
-of_digits : List ℕ → List ℕ
-of_digits l = replicate (3 - length l) 32 ++ drop (length l - 3) l
-
--- A digit that a number shows, and one that it does not.
-shows : (p n k : ℕ) → p ≤ n → k ≡ cond (nat_le p n) k 32
-shows p n k h = sym (ap (λ (b : Bool). cond b k 32) (le-leb p n h))
-
-spaced : (p n k : ℕ) → n < p → 32 ≡ cond (nat_le p n) k 32
-spaced p n k h = sym (ap (λ (b : Bool). cond b k 32) (lt-leb p n h))
-
-cell_from : (n a b : ℕ) → a ≡ cond (nat_le 100 n) (48 + n / 100) 32 → b ≡ cond (nat_le 10 n) (48 + n / 10 % 10) 32 → a ∷ b ∷ (48 + n % 10) ∷ [] ≡ cell n
-cell_from n a b p q = cc
-
-pub cell_justified : (n : ℕ) → n < 256 → justified 3 n ≡ cell n
-unfolding of_digits
-cell_justified n high =
-    ⊎_elim (λ h. ap of_digits (ones n h) ∙ cell_from n 32 32 (spaced 100 n _ (omega arith)) (spaced 10 n _ h))
-    (λ h1. ⊎_elim (λ h. ap of_digits (tens n h1 h) ∙ cell_from n 32 _ (spaced 100 n _ h) (shows 10 n _ h1))
-    (λ h2. ap of_digits (hundreds n h2 (omega arith)) ∙ cell_from n _ _ (shows 100 n _ h2) (shows 10 n _ h1)) (cases_lt n 100))
-    (cases_lt n 10)

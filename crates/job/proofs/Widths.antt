@@ -1,30 +1,11 @@
 -- A number below a million fills its six places as its decimal digits do. Assumes nothing.
-use Rattle.std.proofs.Common.{◌≡◌, ℕ, ◌+◌, ◌-◌, ◌/◌, ◌%◌, ◌^◌, ◌<◌, ◌≤◌, Bool, cond, List, [], ◌∷◌, ◌++◌, length, replicate, drop, decimal, refl, sym, ap, ◌∙◌, ⊎_elim, arith, length-append}
-use Rattle.std.proofs.lemmas.Fmt.{decimal_digit, decimal_step, length-decimal-le}
-use Rattle.std.proofs.lemmas.Bool.{cases_lt, le-leb, lt-leb}
+use Rattle.std.proofs.Common.{◌≡◌, ℕ, ◌+◌, ◌-◌, ◌/◌, ◌%◌, ◌^◌, ◌<◌, ◌≤◌, List, [], ◌∷◌, ◌++◌, length, replicate, drop, decimal, refl, sym, ap, ◌∙◌, ⊎_elim, arith, length-append}
+use Rattle.std.proofs.lemmas.Fmt.{decimal_step, length-decimal-le}
+use Rattle.std.proofs.lemmas.Bool.{cases_lt}
 use Rattle.std.proofs.lemmas.List.{append_assoc, append-nil, drop_at}
 use Rattle.draw.specs.Places.{justified}
+use Rattle.draw.proofs.Digits.{one, shows, spaced, three, two}
 use Rattle.job.specs.Text.{cells, place, wide}
-
--- a place that n reaches, and one that it does not
-shows : (p n : ℕ) → p ≤ n → place p n ≡ 48 + n / p % 10
-shows p n h = ap (λ (b : Bool). cond b (48 + n / p % 10) 32) (le-leb p n h)
-
-spaced : (p n : ℕ) → n < p → place p n ≡ 32
-spaced p n h = ap (λ (b : Bool). cond b (48 + n / p % 10) 32) (lt-leb p n h)
-
-one : (n : ℕ) → n < 10 → decimal n ≡ (48 + n % 10) ∷ []
-one n h = let e : n ≡ n % 10 = omega arith in decimal_digit n h ∙ ap (λ (k : ℕ). (48 + k) ∷ []) e
-
-two : (n : ℕ) → 10 ≤ n → n < 100 → decimal n ≡ (48 + n / 10 % 10) ∷ (48 + n % 10) ∷ []
-two n low high = decimal_step n low (omega arith) ∙ ap (λ (l : List ℕ). l ++ ((48 + n % 10) ∷ [])) (one (n / 10) (omega arith))
-
-three : (n : ℕ) → 100 ≤ n → n < 1000 → decimal n ≡ (48 + n / 100 % 10) ∷ (48 + n / 10 % 10) ∷ (48 + n % 10) ∷ []
-three n low high =
-    let e : n / 10 / 10 ≡ n / 100 = omega arith in
-    decimal_step n (omega arith) (omega arith)
-    ∙ ap (λ (l : List ℕ). l ++ ((48 + n % 10) ∷ [])) (two (n / 10) (omega arith) (omega arith))
-    ∙ ap (λ (k : ℕ). (48 + k % 10) ∷ (48 + n / 10 % 10) ∷ (48 + n % 10) ∷ []) e
 
 four : (n : ℕ) → 1000 ≤ n → n < 10000 → decimal n ≡ (48 + n / 1000 % 10) ∷ (48 + n / 100 % 10) ∷ (48 + n / 10 % 10) ∷ (48 + n % 10) ∷ []
 four n low high =
@@ -67,12 +48,12 @@ justified_by l = replicate (6 - length l) 32 ++ l
 pub cells_wide : (n : ℕ) → n < 1000000 → cells n ≡ wide n
 unfolding justified_by
 cells_wide n high =
-    ⊎_elim (λ h. cells_from n 32 32 32 32 32 (spaced _ n (omega arith)) (spaced _ n (omega arith)) (spaced _ n (omega arith)) (spaced _ n (omega arith)) (spaced _ n h) ∙ sym (ap justified_by (one n h)))
-    (λ h1. ⊎_elim (λ h. cells_from n 32 32 32 32 _ (spaced _ n (omega arith)) (spaced _ n (omega arith)) (spaced _ n (omega arith)) (spaced _ n h) (shows 10 n h1) ∙ sym (ap justified_by (two n h1 h)))
-    (λ h2. ⊎_elim (λ h. cells_from n 32 32 32 _ _ (spaced _ n (omega arith)) (spaced _ n (omega arith)) (spaced _ n h) (shows 100 n h2) (shows 10 n h1) ∙ sym (ap justified_by (three n h2 h)))
-    (λ h3. ⊎_elim (λ h. cells_from n 32 32 _ _ _ (spaced _ n (omega arith)) (spaced _ n h) (shows 1000 n h3) (shows 100 n h2) (shows 10 n h1) ∙ sym (ap justified_by (four n h3 h)))
-    (λ h4. ⊎_elim (λ h. cells_from n 32 _ _ _ _ (spaced _ n h) (shows 10000 n h4) (shows 1000 n h3) (shows 100 n h2) (shows 10 n h1) ∙ sym (ap justified_by (five n h4 h)))
-    (λ h5. cells_from n _ _ _ _ _ (shows 100000 n h5) (shows 10000 n h4) (shows 1000 n h3) (shows 100 n h2) (shows 10 n h1) ∙ sym (ap justified_by (six n h5 high)))
+    ⊎_elim (λ h. cells_from n 32 32 32 32 32 (spaced _ n _ (omega arith)) (spaced _ n _ (omega arith)) (spaced _ n _ (omega arith)) (spaced _ n _ (omega arith)) (spaced _ n _ h) ∙ sym (ap justified_by (one n h)))
+    (λ h1. ⊎_elim (λ h. cells_from n 32 32 32 32 _ (spaced _ n _ (omega arith)) (spaced _ n _ (omega arith)) (spaced _ n _ (omega arith)) (spaced _ n _ h) (shows 10 n _ h1) ∙ sym (ap justified_by (two n h1 h)))
+    (λ h2. ⊎_elim (λ h. cells_from n 32 32 32 _ _ (spaced _ n _ (omega arith)) (spaced _ n _ (omega arith)) (spaced _ n _ h) (shows 100 n _ h2) (shows 10 n _ h1) ∙ sym (ap justified_by (three n h2 h)))
+    (λ h3. ⊎_elim (λ h. cells_from n 32 32 _ _ _ (spaced _ n _ (omega arith)) (spaced _ n _ h) (shows 1000 n _ h3) (shows 100 n _ h2) (shows 10 n _ h1) ∙ sym (ap justified_by (four n h3 h)))
+    (λ h4. ⊎_elim (λ h. cells_from n 32 _ _ _ _ (spaced _ n _ h) (shows 10000 n _ h4) (shows 1000 n _ h3) (shows 100 n _ h2) (shows 10 n _ h1) ∙ sym (ap justified_by (five n h4 h)))
+    (λ h5. cells_from n _ _ _ _ _ (shows 100000 n _ h5) (shows 10000 n _ h4) (shows 1000 n _ h3) (shows 100 n _ h2) (shows 10 n _ h1) ∙ sym (ap justified_by (six n h5 high)))
     (cases_lt n 100000)) (cases_lt n 10000)) (cases_lt n 1000)) (cases_lt n 100)) (cases_lt n 10)
 
 -- the last digit but those that stand behind already
@@ -90,7 +71,7 @@ last_six n low high =
     let e = step n (n / 10000) (n / 100000) _ d (omega arith) (omega arith) (omega arith) in
     let f = step n (n / 100000) (n / 1000000) _ e (omega arith) (omega arith) (omega arith) in
     f ∙ ap (λ (l : List ℕ). decimal (n / 1000000) ++ l)
-    (sym (cells_from n _ _ _ _ _ (shows 100000 n (omega arith)) (shows 10000 n (omega arith)) (shows 1000 n (omega arith)) (shows 100 n (omega arith)) (shows 10 n (omega arith))))
+    (sym (cells_from n _ _ _ _ _ (shows 100000 n _ (omega arith)) (shows 10000 n _ (omega arith)) (shows 1000 n _ (omega arith)) (shows 100 n _ (omega arith)) (shows 10 n _ (omega arith))))
 
 -- the last six digits of a long number
 cut : (l front back : List ℕ) → l ≡ front ++ back → length back ≡ 6 → replicate (6 - length l) 32 ++ drop (length l - 6) l ≡ back

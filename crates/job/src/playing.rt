@@ -1,8 +1,7 @@
 // Playing the plan of a job on its site.
 ghost use Rattle.std.specs.Prelude.{◌≡◌, ℕ, ◌≤◌, map, length, IfOk, vec_len};
 ghost use Rattle.std.specs.List.{range_with_len};
-ghost use Rattle.std.specs.Option.{option_map};
-ghost use Rattle.terms.specs.Refusals.{refusal_in, told_of};
+ghost use Rattle.terms.specs.Refusals.{refusal_in};
 ghost use Rattle.ground.specs.View.{square_of};
 ghost use Rattle.gate.specs.Scene.{height_at};
 ghost use Rattle.gate.specs.View.{scene_of};
@@ -12,19 +11,40 @@ ghost use Rattle.terms.specs.View.{settings_of};
 ghost use Rattle.plan.specs.Rules.{Rules};
 ghost use Rattle.play.specs.Play.{play_on};
 ghost use Rattle.play.specs.Stands.{Comes};
-ghost use Rattle.service.specs.View.{deeds_of, room_of};
+ghost use Rattle.undertaking.specs.View.{room_of};
+ghost use Rattle.service.specs.View.{deeds_of};
 ghost use Rattle.job.specs.Replies.{heights as drawn};
-ghost use Rattle.job.specs.View.{first_refusal, refused_by, site_of};
+ghost use Rattle.job.specs.View.{first_refusal, site_of};
 
 use crate::opened::{Job, Judged};
 use gate::Site;
 use ground::Ground;
 use service::{Deed, Stage, perform};
+use std::alloc::{AllocError, Global};
 use terms::{Refusal, Reserve};
 use undertaking::{Answer, Performance};
 
 // The most columns of a ground.
-pub(crate) const MOST_COLUMNS: usize = 256;
+const MOST_COLUMNS: usize = 256;
+
+// The room that a plan is played in: a stage for one deed, and room for the heights afterwards.
+#[derive(Drop)]
+pub(crate) struct PlayRoom {
+    stage: Stage,
+    heights: Reserve<u8, MOST_COLUMNS>,
+    ghost no_deeds: { length (deeds_of stage) ≡ 0 },
+    ghost one_fits: { room_of stage ≡ 1 },
+}
+
+impl PlayRoom {
+    // Room for any plan on the largest ground.
+    pub(crate) fn new(heap: Global) -> Result<PlayRoom, AllocError> {
+        Ok(PlayRoom {
+            stage: Stage::new(heap, 1)?,
+            heights: Reserve::new(heap)?,
+        })
+    }
+}
 
 // The heights of so many columns of a site, in order.
 fn read_heights<G: Ground>(site: &Site<G>, columns: u16, room: Reserve<u8, MOST_COLUMNS>) -> Vec<u8>
@@ -39,33 +59,18 @@ fn read_heights<G: Ground>(site: &Site<G>, columns: u16, room: Reserve<u8, MOST_
     heights
 }
 
-// The refusal that an answer gives, if it is one.
-fn refusal_in(answer: Answer) -> Option<Refusal>
-    ensures { option_map told_of result ≡ refused_by (reply_of answer) }
+// Why the first request was refused, if it was.
+fn stopped(answers: &[Answer]) -> Result<(), Refusal>
+    ensures { refusal_in result ≡ first_refusal (map reply_of answers.now) }
 {
-    match answer {
-        Answer::Refused(refusal) => Some(refusal),
-        Answer::Granted | Answer::Named(_) => None,
+    match answers {
+        [Err(refusal), ..] => Err(*refusal),
+        _ => Ok(()),
     }
-}
-
-// The refusal of the first call, if it was refused.
-fn stopped(answers: &[Answer]) -> Option<Refusal>
-    ensures { option_map told_of result ≡ first_refusal (map reply_of answers.now) }
-{
-    if answers.len() == 0 {
-        return None;
-    }
-    refusal_in(answers[0])
 }
 
 // Plays the plan of a job: why it was stopped, or the heights then.
-pub(crate) fn play_job(
-    mut stage: Stage,
-    judged: Judged,
-    heights: Reserve<u8, MOST_COLUMNS>,
-) -> Result<Vec<u8>, Refusal>
-    requires stage { (length (deeds_of stage) ≡ 0) × (room_of stage ≡ 1) }
+pub(crate) fn play_job(judged: Judged, room: PlayRoom) -> Result<Vec<u8>, Refusal>
     ensures answer { refusal_in result ≡ (play_on (acceptance_of judged.plan).plan (site_of judged.job)).answer }
     ensures comes { (targets : ℕ → ℕ) → Rules (square_of judged.job.ground) (settings_of judged.job.settings) (acceptance_of judged.plan).plan targets → Comes (square_of judged.job.ground) (settings_of judged.job.settings) (acceptance_of judged.plan).plan targets (play_on (acceptance_of judged.plan).plan (site_of judged.job)) }
     ensures few { IfOk result (λ hs. vec_len hs ≤ 256) }
@@ -73,11 +78,10 @@ pub(crate) fn play_job(
 {
     let Judged { job, plan } = judged;
     let Job { ground, settings } = job;
+    let PlayRoom { mut stage, heights } = room;
     let columns = ground.columns();
     let _ = stage.add(Deed::Play(plan));
     let Performance { site, answers } = perform(stage, ground, settings);
-    if let Some(refusal) = stopped(answers.as_slice()) {
-        return Err(refusal);
-    }
+    stopped(&answers)?;
     Ok(read_heights(&site, columns, heights))
 }

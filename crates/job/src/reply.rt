@@ -1,17 +1,15 @@
 // The whole answer of the program.
-ghost use Rattle.std.specs.Prelude.{◌≡◌, ◌≤◌, length, IfOk, vec_len};
-ghost use Rattle.service.specs.View.{deeds_of, room_of};
+ghost use Rattle.std.specs.Prelude.{◌≡◌, ◌≤◌, IfOk, vec_len};
 ghost use Rattle.job.specs.Replies.{answered};
 ghost use Rattle.job.specs.Written.{written};
 ghost use Rattle.job.specs.Words.{Verdict};
 
 use crate::Desk;
 use crate::opened::judge_job;
-use crate::playing::{MOST_COLUMNS, play_job};
+use crate::playing::{PlayRoom, play_job};
 use crate::text::Page;
 use judge::Room;
-use service::Stage;
-use terms::{Refusal, Reserve};
+use terms::Refusal;
 
 // What comes of a job that nothing stops: the figures of its plan, and the heights once it was played.
 #[derive(Drop)]
@@ -30,22 +28,16 @@ enum Stop {
 }
 
 // Judges a job, and plays its plan.
-fn play_out(
-    input: &[u8],
-    room: Room,
-    stage: Stage,
-    heights: Reserve<u8, MOST_COLUMNS>,
-) -> Result<Played, Stop>
-    requires { (length (deeds_of stage) ≡ 0) × (room_of stage ≡ 1) }
+fn play_out(input: &[u8], judging: Room, playing: PlayRoom) -> Result<Played, Stop>
     ensures value { written result ≡ answered input.now }
     ensures words { Verdict input.now (written result) }
     ensures few { IfOk result (λ p. vec_len p.heights ≤ 256) }
 {
-    let judged = judge_job(input, room).map_err(Stop::Bad)?;
+    let judged = judge_job(input, judging).map_err(Stop::Bad)?;
     let makespan = u64::from(judged.plan.makespan());
     let costs = judged.plan.costs();
     let most = judged.plan.most() as u64;
-    let heights = play_job(stage, judged, heights).map_err(Stop::Held)?;
+    let heights = play_job(judged, playing).map_err(Stop::Held)?;
     Ok(Played {
         makespan,
         costs,
@@ -60,13 +52,12 @@ pub fn answer(input: &[u8], desk: Desk) -> Vec<u8>
     ensures words { Verdict input.now result.items }
 {
     let Desk {
-        room,
-        stage,
-        heights,
+        judging,
+        playing,
         text,
     } = desk;
     let mut page = Page::new(text);
-    match play_out(input, room, stage, heights) {
+    match play_out(input, judging, playing) {
         Ok(played) => {
             page.put_row(b"OK  ", played.makespan, played.costs, played.most);
             page.put_drawing(&played.heights);

@@ -49,6 +49,7 @@ impl Page {
         requires { length self.old + length bytes.now ≤ 807 }
         ensures { self.new ≡ self.old ++ bytes.now }
     {
+        // Pushed where there is room already, so that no heap is asked for.
         let text = &mut self.text;
         for b in bytes {
             text.push_reserved(*b);

@@ -5,7 +5,7 @@ use Rattle.std.proofs.lemmas.List.{take_more, take_all, drop_all, flat_map_more,
 use Rattle.std.proofs.lemmas.Slice.{take-put_mid}
 use Rattle.draw.specs.Places.{justified}
 use Rattle.draw.specs.Rows.{cell, row_text}
-use Rattle.draw.proofs.Texts.{cell_justified}
+use Rattle.draw.proofs.Digits.{cell_justified}
 use Rattle.draw.proofs.write_row.Goals as goal
 
 -- One cell more.

@@ -1,5 +1,4 @@
-use Rattle.std.proofs.Common.{◌≡◌, ℕ, Ok, Err, MatchResult, rules, List, ◌++◌, length, Some, None, vec_items, codes, sum_by, Option, Result, sym, ap, ◌∙◌, subst, arith}
-use Rattle.std.proofs.lemmas.List.{nil_from_length}
+use Rattle.std.proofs.Common.{◌≡◌, ℕ, Ok, Err, MatchResult, rules, List, ◌++◌, Some, None, vec_items, codes, sum_by, Option, Result, sym, ap, ◌∙◌, subst}
 use Rattle.terms.specs.Refusals.{Answers, Settles, Silent, Told, refusal_in, told_of}
 use Rattle.terms.specs.declared.refusal.Refusal.{Refusal}
 use Rattle.terms.specs.View.{settings_of}
@@ -15,7 +14,7 @@ use Rattle.play.specs.Play.{Outcome, play_on}
 use Rattle.play.specs.Stands.{Comes}
 use Rattle.draw.specs.Rows.{text as drawing}
 use Rattle.job.specs.Jobs.{job_refusal, order, sheet_in}
-use Rattle.job.specs.Replies.{answered, ground_of, heights, ok_row, outcome, plan_in, played_reply, reply, row, told_row}
+use Rattle.job.specs.Replies.{answered, ground_of, heights, ok_row, outcome, plan_in, played_reply, reply, row}
 use Rattle.job.specs.View.{Judges, site_of}
 use Rattle.job.specs.Words.{Verdict, job_reasons}
 use Rattle.job.specs.declared.opened.Judged.{Judged}
