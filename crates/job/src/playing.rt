@@ -80,6 +80,7 @@ pub(crate) fn play_job(judged: Judged, room: PlayRoom) -> Result<Vec<u8>, Refusa
     let Job { ground, settings } = job;
     let PlayRoom { mut stage, heights } = room;
     let columns = ground.columns();
+    // There is room for it.
     let _ = stage.add(Deed::Play(plan));
     let Performance { site, answers } = perform(stage, ground, settings);
     stopped(&answers)?;

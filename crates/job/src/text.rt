@@ -21,6 +21,7 @@ fn six(n: u64) -> [u8; 6]
 }
 
 // What is written so far of an answer, with room for the longest.
+// It takes bytes, and no `write!`: of that a proof knows the text only where no write fails.
 #[derive(Drop)]
 pub(crate) struct Page {
     text: Vec<u8>,
