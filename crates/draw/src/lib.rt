@@ -50,12 +50,10 @@ fn write_rows(heights: &[u8], out: &mut [u8])
     requires { length (text heights.now) ≤ length out.old }
     ensures { out.new ≡ text heights.now ++ drop (length (text heights.now)) out.old }
 {
-    // At an offset: what is written through a `zip` with `chunks_mut` is not known to a proof.
-    let mut at = 0;
-    for row in heights.chunks(16) {
-        let end = at + 3 * row.len() + 1;
-        write_row(row, &mut out[at..end]);
-        at = end;
+    // Each row in its place, 49 bytes on: what a `zip` with `chunks_mut` writes is not known to a proof.
+    for (i, row) in heights.chunks(16).enumerate() {
+        let at = 49 * i;
+        write_row(row, &mut out[at..at + 3 * row.len() + 1]);
     }
 }
 
