@@ -15,10 +15,6 @@ at_tick [] c = refl
 at_tick (x ∷ xs) zero = refl
 at_tick (x ∷ xs) (suc c) = at_tick xs c
 
-pub length_tick : (xs : Columns) → length (tick_all xs) ≡ length xs
-length_tick [] = refl
-length_tick (x ∷ xs) = ap suc (length_tick xs)
-
 pub at_opened : (n c : ℕ) → at (replicate n fresh) c ≡ fresh
 at_opened zero c = refl
 at_opened (suc n) zero = refl

@@ -23,25 +23,16 @@ pub struct Performance<G: Ground> {
     pub answers: Vec<Answer>,
 }
 
-// Makes every request, in order, and notes its answer; there is room for the answers.
-fn make_all<R: Request, G: Ground>(site: &mut Site<G>, requests: Vec<R>, answers: &mut Vec<Answer>)
-    requires { vec_len answers.old + vec_len requests ≤ vec_capacity answers.old }
-    ensures after { scene_of G.Ground.meaning site.new ≡ fold R.becomes (scene_of G.Ground.meaning site.old) requests.items }
-    ensures answers { map reply_of answers.new.items ≡ map reply_of answers.old.items ++ each_answers R.answers R.becomes (scene_of G.Ground.meaning site.old) requests.items }
-{
-    for request in requests {
-        answers.push_reserved(request.make(site));
-    }
-}
-
-// Opens a site and makes every request, in order.
+// Opens a site, makes every request, in order, and notes its answer; there is room for the answers.
 pub fn run<R: Request, G: Ground>(stage: Stage<R>, ground: G, settings: Settings) -> Performance<G>
     ensures after { scene_of G.Ground.meaning result.site ≡ fold R.becomes (opened (G.Ground.meaning ground) (settings_of settings)) (requests_of stage) }
     ensures answers { map reply_of result.answers.items ≡ each_answers R.answers R.becomes (opened (G.Ground.meaning ground) (settings_of settings)) (requests_of stage) }
 {
     let mut answers = stage.answers;
     let mut site = Site::open(stage.plot, ground, settings);
-    make_all(&mut site, stage.requests, &mut answers);
+    for request in stage.requests {
+        answers.push_reserved(request.make(&mut site));
+    }
     Performance { site, answers }
 }
 

@@ -1,5 +1,5 @@
 // Putting requests on a stage.
-ghost use Rattle.std.specs.Prelude.{◌≡◌, [], ◌∷◌, ◌++◌, length, if◌then◌else◌, nat_lt, is_ok, IfOk, IfErr};
+ghost use Rattle.std.specs.Prelude.{◌≡◌, [], ◌∷◌, ◌++◌, length, if◌then◌else◌, nat_lt, is_ok, IfOk, IfErr, vec_len};
 ghost use Rattle.undertaking.specs.View.{requests_of, room_of};
 
 use crate::stage::Stage;
@@ -24,7 +24,7 @@ impl<R: Drop> Stage<R> {
 
     // A stage with these requests, and room for no more.
     pub fn of(heap: Global, requests: Vec<R>) -> Result<Stage<R>, AllocError>
-        ensures { IfOk result (λ stage. requests_of stage ≡ requests.items) }
+        ensures { IfOk result (λ stage. (requests_of stage ≡ requests.items) × (room_of stage ≡ vec_len requests)) }
     {
         let plot = Plot::new(heap)?;
         let answers = Vec::with_capacity(heap, requests.len())?;

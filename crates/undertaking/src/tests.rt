@@ -50,9 +50,9 @@ fn follow<G: Ground>(rt: &impl Abort, site: &mut Site<G>, rows: &[Row]) {
 
 // Obeys recall until no robot is there; each order names as many actions as are left.
 fn obey<G: Ground>(rt: &impl Abort, site: &mut Site<G>, actions: u32) -> Result<(), Fail> {
-    for k in 0..actions {
+    for left in (1..=actions).rev() {
         let order = site.recall()?;
-        assert_eq!(rt; order.left, actions - k);
+        assert_eq!(rt; order.left, left);
         let call = match order.next {
             Next::Leaves => Call::Leave {
                 column: order.column,
@@ -241,10 +241,7 @@ fn in_as_another_has_left(rt: HostRuntime) -> Result<(), Fail> {
 // A list of calls from the opening: the second and the third come while the robot still enters.
 #[test]
 fn a_list_of_calls(rt: HostRuntime) -> Result<(), Fail> {
-    let mut calls = Vec::new(rt.alloc());
-    for call in [enter(1, true), lay(1, 4), Call::Recall] {
-        calls.push(call)?;
-    }
+    let calls = vec![in rt.alloc(); enter(1, true), lay(1, 4), Call::Recall]?;
     let stage = Stage::of(rt.alloc(), calls)?;
     let Performance { site, answers } = perform(stage, Square::new(3, 3)?, Settings::new(2, 1, 3)?);
     assert_eq!(rt; answers.len(), 3);

@@ -4,7 +4,7 @@ use Rattle.std.specs.Vec.Iter.{into_iter_items}
 use Rattle.gate.specs.View.{scene_of}
 use Rattle.undertaking.specs.Requests.{each_answers}
 use Rattle.undertaking.specs.Runs.{reply_of}
-use Rattle.undertaking.proofs.performing.make_all.Given as goal
+use Rattle.undertaking.proofs.performing.run.Given as goal
 
 -- what the requests that are left make of the site, and answer, completes what all make of it; and there is room
 abbrev pub invariant-loop-request : goal.invariant-loop-request
