@@ -1,4 +1,4 @@
-// What a site can be asked: one request, what it answers, and what it makes of the site.
+// What a site can be asked, and the seven calls as such requests.
 ghost use Rattle.std.specs.Prelude.{◌≡◌};
 ghost use Rattle.gate.specs.Gate.{step};
 ghost use Rattle.gate.specs.Scene.{Scene};
@@ -9,6 +9,7 @@ use crate::answer::Answer;
 use gate::{Call, Site};
 use ground::Ground;
 
+// A kind of request: what one answers, and what it makes of the site, by the site that it is made of.
 pub trait Request: Drop {
     ghost answers: { Scene → Self → Reply };
 
