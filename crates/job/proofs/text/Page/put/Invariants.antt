@@ -1,5 +1,5 @@
 use Rattle.std.proofs.Common.{◌≡◌, ◌+◌, ◌++◌, take, vec_items, vec_len, vec_capacity}
-use Rattle.job.proofs.text.put.Given as goal
+use Rattle.job.proofs.text.Page.put.Given as goal
 
 -- the bytes so far are added
 abbrev pub invariant-loop-b : goal.invariant-loop-b
