@@ -5,7 +5,9 @@ use Rattle.terms.specs.Refusals.{Told, told, first_of, from_on, or_else}
 use Rattle.terms.specs.declared.refusal.Rule.TheVariants.{LeftBehind, TargetMissed}
 use Rattle.terms.proofs.First.{first_append}
 use Rattle.ground.specs.Meaning.{Meaning}
+use Rattle.sheet.specs.declared.target.Target.{Target}
 use Rattle.plan.specs.Plan.{Action, line, makespan, no_action}
+use Rattle.plan.specs.Rules.{target_of}
 use Rattle.judge.specs.Finding.{find, line_in}
 use Rattle.judge.specs.Judging.{end_tests, left_behind, missed}
 use Rattle.judge.proofs.Chains.{first_found, off, on}
@@ -33,5 +35,12 @@ module _ (m : Meaning) (plan : List Action) (targets : ℕ → ℕ) (lines : ℕ
   pub at_behind : (o : Option ℕ) (l : ℕ) → o ≡ line_in (find (left_behind plan) plan) → o ≡ Some l → first_of (end_tests m plan targets lines) ≡ Some (told LeftBehind l 0)
   at_behind o l e is = one_by_one ∙ off _ _ (told LeftBehind l 0) (behind_found o e ∙ ap (option_map (λ l. told LeftBehind l 0)) is)
 
-  pub past_behind : (o : Option ℕ) (t : ℕ) → o ≡ line_in (find (left_behind plan) plan) → o ≡ None → t ≡ makespan plan → first_of (end_tests m plan targets lines) ≡ first_of (missed_tests t)
-  past_behind o t e is et = one_by_one ∙ on _ _ (behind_found o e ∙ ap (option_map (λ l. told LeftBehind l 0)) is) ∙ ap (λ (u : ℕ). first_of (missed_tests u)) (sym et)
+-- with the figures and the targets as the code has them
+pub past_behind : (m : Meaning) (plan : List Action) (targets : List Target) (lines : ℕ) (o : Option ℕ) (columns time : ℕ) (ts : List Target)
+    → o ≡ line_in (find (left_behind plan) plan) → o ≡ None → columns ≡ m.columns → time ≡ makespan plan → ts ≡ targets
+    → first_of (end_tests m plan (target_of targets) lines) ≡ first_of (from_on (λ c. (missed plan (target_of ts) time c, told TargetMissed lines c) ∷ []) 0 columns)
+past_behind m plan targets lines o columns time ts e is width end same =
+    one_by_one m plan (target_of targets) lines ∙ on _ _ (behind_found m plan (target_of targets) lines o e ∙ ap (option_map (λ l. told LeftBehind l 0)) is)
+    ∙ ap (λ (u : ℕ). first_of (missed_tests m plan (target_of targets) lines u)) (sym end)
+    ∙ ap (λ (us : List Target). first_of (missed_tests m plan (target_of us) lines time)) (sym same)
+    ∙ ap (λ (n : ℕ). first_of (from_on (λ c. (missed plan (target_of ts) time c, told TargetMissed lines c) ∷ []) 0 n)) (sym width)

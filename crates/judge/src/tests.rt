@@ -31,18 +31,14 @@ fn told(rt: HostRuntime, a: &[u8], b: &[u8], c: &[u8], d: &[u8]) -> Result<(u16,
     add(&mut sheet, c)?;
     add(&mut sheet, d)?;
     add(&mut sheet, END)?;
-    let Ok(ground) = Square::new(3, 3) else {
-        return Err(Fail::new("the ground is refused"));
-    };
-    let Ok(settings) = Settings::new(2, 1, 0) else {
-        return Err(Fail::new("the settings are refused"));
-    };
+    let ground = Square::new(3, 3)?;
+    let settings = Settings::new(2, 1, 0)?;
     match judge(&ground, &settings, sheet.as_slice(), Room::new(rt.alloc())?) {
         Ok(plan) => Ok((0, plan.makespan(), plan.costs())),
         Err(refusal) => Ok((
             refusal.rule.number(),
-            refusal.line as u32,
-            refusal.detail as u64,
+            u32::from(refusal.line),
+            u64::from(refusal.detail),
         )),
     }
 }
