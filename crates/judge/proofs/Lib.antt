@@ -1,6 +1,4 @@
 pub mod Searches
-pub mod Steps
-pub mod Single
 pub mod Lowest
 pub mod Chains
 pub mod Left

@@ -58,9 +58,10 @@ fn accept(actions: Vec<Action>, targets: Vec<Target>) -> Accepted
     ensures plan { ((acceptance_of result).plan ≡ plan_of actions.items) × ((acceptance_of result).targets ≡ targets.items) }
     ensures figures { Figures (acceptance_of result).plan (acceptance_of result).makespan (acceptance_of result).costs (acceptance_of result).most }
 {
-    let makespan = latest_end(actions.as_slice());
-    let costs = costs(actions.as_slice());
-    let most = most_at_once(actions.as_slice());
+    let plan = actions.as_slice();
+    let makespan = latest_end(plan);
+    let costs = costs(plan);
+    let most = most_at_once(plan);
     Accepted {
         actions,
         targets,
