@@ -62,10 +62,3 @@ module _ (m : Meaning) (above : List Action) (t : ℕ) (so : Settled m above) wh
       lowest_from (left_standing above t) (told LeftStanding number) m.columns 0 c (omega arith) (omega (arith, so.grounded i l))
       ((decides_left above t c).1 (subst (IsLeftStanding above t) e (stood i l p)))
       (λ d _ b. not_so (left_standing above t d) (λ y. let (k, lk, pk, ek) = recent d ((decides_left above t d).0 y) in omega (arith, low.1 k lk pk)))
-
-  -- the same with the times as the code has them
-  pub left_found : (number since : ℕ) (until : ℕ) (o : Option ℕ) → since ≡ latest_start above → until ≡ t → Lowest (left_between above since until) above o
-      → first_of (from_on (λ c. (left_standing above t c, told LeftStanding number c) ∷ []) 0 m.columns) ≡ option_map (told LeftStanding number) o
-  left_found number since until o es et low =
-      left_first number o
-      (subst (λ (x : ℕ). Lowest (left_between above (latest_start above) x) above o) et (subst (λ (x : ℕ). Lowest (left_between above x until) above o) es low))

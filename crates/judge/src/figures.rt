@@ -11,13 +11,11 @@ use plan::Action;
 pub(crate) fn latest_end(actions: &[Action]) -> u32
     ensures { result ≡ makespan (plan_of actions.now) }
 {
-    let mut latest = 0;
-    for action in actions {
-        if action.span.end() > latest {
-            latest = action.span.end();
-        }
-    }
-    latest
+    actions
+        .iter()
+        .map(|action| action.span.end())
+        .max()
+        .unwrap_or(0)
 }
 
 // The sum of the costs of all actions.
@@ -25,11 +23,10 @@ pub(crate) fn costs(actions: &[Action]) -> u64
     requires few { length actions.now ≤ 1500 }
     ensures value { result ≡ sum_by cost (plan_of actions.now) }
 {
-    let mut costs = 0;
-    for action in actions {
-        costs += action.span.cost() as u64;
-    }
-    costs
+    actions
+        .iter()
+        .map(|action| u64::from(action.span.cost()))
+        .sum()
 }
 
 // The most actions that run at one time.
@@ -37,12 +34,9 @@ pub(crate) fn most_at_once(actions: &[Action]) -> usize
     ensures reached { (t : ℕ) × (count_by (runs t) (plan_of actions.now) ≡ result) }
     ensures never_more { (t : ℕ) → count_by (runs t) (plan_of actions.now) ≤ result }
 {
-    let mut most = 0;
-    for action in actions {
-        let running = running_at(actions, action.span.start());
-        if running > most {
-            most = running;
-        }
-    }
-    most
+    actions
+        .iter()
+        .map(|action| running_at(actions, action.span.start()))
+        .max()
+        .unwrap_or(0)
 }

@@ -16,33 +16,21 @@ const LEAVE: &[u8] = b"ACT      2     3   1  0 0 M   E  E";
 
 const END: &[u8] = b"END      3                        ";
 
-// Adds a line with its newline.
-fn add(sheet: &mut Vec<u8>, line: &[u8]) -> Result<(), Fail> {
-    sheet.extend_from_slice(line)?;
-    sheet.push(b'\n')?;
-    Ok(())
-}
-
 // Of four lines and END: the number, the line and the detail of the first broken rule, or 0, the makespan and the costs.
 fn told(rt: HostRuntime, a: &[u8], b: &[u8], c: &[u8], d: &[u8]) -> Result<(u16, u32, u64), Fail> {
     let mut sheet = Vec::new(rt.alloc());
-    add(&mut sheet, a)?;
-    add(&mut sheet, b)?;
-    add(&mut sheet, c)?;
-    add(&mut sheet, d)?;
-    add(&mut sheet, END)?;
-    let Ok(ground) = Square::new(3, 3) else {
-        return Err(Fail::new("the ground is refused"));
-    };
-    let Ok(settings) = Settings::new(2, 1, 0) else {
-        return Err(Fail::new("the settings are refused"));
-    };
+    for line in [a, b, c, d, END] {
+        sheet.extend_from_slice(line)?;
+        sheet.push(b'\n')?;
+    }
+    let ground = Square::new(3, 3)?;
+    let settings = Settings::new(2, 1, 0)?;
     match judge(&ground, &settings, sheet.as_slice(), Room::new(rt.alloc())?) {
         Ok(plan) => Ok((0, plan.makespan(), plan.costs())),
         Err(refusal) => Ok((
             refusal.rule.number(),
-            refusal.line as u32,
-            refusal.detail as u64,
+            u32::from(refusal.line),
+            u64::from(refusal.detail),
         )),
     }
 }
