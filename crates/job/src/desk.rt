@@ -1,5 +1,6 @@
 // The room that a job is answered in, made before it is read.
-ghost use Rattle.std.specs.Prelude.{◌≤◌, IfOk, vec_capacity};
+ghost use Rattle.std.specs.Prelude.{◌≤◌, IfOk};
+ghost use Rattle.terms.specs.View.{room_of};
 
 use crate::playing::PlayRoom;
 use crate::text::MOST_BYTES;
@@ -17,7 +18,7 @@ pub struct Desk {
 impl Desk {
     // Room for the largest job.
     pub fn new(heap: Global) -> Result<Desk, AllocError>
-        ensures { IfOk result (λ d. 807 ≤ vec_capacity d.text.values) }
+        ensures { IfOk result (λ d. 807 ≤ room_of d.text) }
     {
         Ok(Desk {
             judging: Room::new(heap)?,

@@ -50,7 +50,7 @@ impl PlayRoom {
 fn read_heights<G: Ground>(site: &Site<G>, columns: u16, room: Reserve<u8, MOST_COLUMNS>) -> Vec<u8>
     requires { columns ≤ 256 }
     ensures few { vec_len result ≡ columns }
-    ensures read { result.items ≡ map (height_at (scene_of G.Ground.meaning site.now).columns) (range_with_len 0 columns) }
+    ensures read { result.items ≡ map (height_at (scene_of site.now).columns) (range_with_len 0 columns) }
 {
     let mut heights = room.into_vec();
     for column in 0..columns {

@@ -1,4 +1,7 @@
 // Room for judging a sheet, made before it is judged.
+ghost use Rattle.std.specs.Prelude.{◌≤◌, IfOk};
+ghost use Rattle.terms.specs.View.{room_of};
+
 use plan::Action;
 use std::alloc::{AllocError, Global};
 use terms::Reserve;
@@ -14,7 +17,9 @@ pub struct Room {
 
 impl Room {
     // Room for the longest sheet.
-    pub fn new(heap: Global) -> Result<Room, AllocError> {
+    pub fn new(heap: Global) -> Result<Room, AllocError>
+        ensures { IfOk result (λ room. 1500 ≤ room_of room.actions) }
+    {
         let reading = sheet::Room::new(heap)?;
         let actions = Reserve::new(heap)?;
         Ok(Room { reading, actions })

@@ -15,8 +15,8 @@ use terms::Refusal;
 // Plays an accepted plan, which is used up by it, refused or not; only a fresh site is played on. What comes of a plan that keeps
 // the rules is `PlaysStand`.
 pub fn play<G: Ground>(site: &mut Site<G>, accepted: Accepted) -> Result<(), Refusal>
-    ensures answer { refusal_in result ≡ (play_on (acceptance_of accepted).plan (scene_of G.Ground.meaning site.old)).answer }
-    ensures after { scene_of G.Ground.meaning site.new ≡ (play_on (acceptance_of accepted).plan (scene_of G.Ground.meaning site.old)).site }
+    ensures answer { refusal_in result ≡ (play_on (acceptance_of accepted).plan (scene_of site.old)).answer }
+    ensures after { scene_of site.new ≡ (play_on (acceptance_of accepted).plan (scene_of site.old)).site }
     ensures stands { PlaysStand }
 {
     play_actions(site, accepted.actions())

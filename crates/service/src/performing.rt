@@ -16,7 +16,7 @@ pub type Stage = undertaking::Stage<Deed>;
 
 // Opens a site and does every deed, in order.
 pub fn perform<G: Ground>(stage: Stage, ground: G, settings: Settings) -> Performance<G>
-    ensures { Whole (G.Ground.meaning ground) (settings_of settings) (deeds_of stage) (map reply_of result.answers.items) (scene_of G.Ground.meaning result.site) }
+    ensures { Whole (G.Ground.meaning ground) (settings_of settings) (deeds_of stage) (map reply_of result.answers.items) (scene_of result.site) }
 {
     run(stage, ground, settings)
 }

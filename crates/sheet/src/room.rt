@@ -1,4 +1,7 @@
 // Room for the records of a sheet, made before it is read.
+ghost use Rattle.std.specs.Prelude.{◌≤◌, IfOk};
+ghost use Rattle.terms.specs.View.{room_of};
+
 use crate::{ActLine, Target};
 use std::alloc::{AllocError, Global};
 use terms::Reserve;
@@ -15,7 +18,9 @@ pub struct Room {
 
 impl Room {
     // Room for the longest sheet.
-    pub fn new(heap: Global) -> Result<Room, AllocError> {
+    pub fn new(heap: Global) -> Result<Room, AllocError>
+        ensures { IfOk result (λ room. (1500 ≤ room_of room.targets) × (1500 ≤ room_of room.acts)) }
+    {
         let targets = Reserve::new(heap)?;
         let acts = Reserve::new(heap)?;
         Ok(Room { targets, acts })

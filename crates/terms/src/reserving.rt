@@ -17,7 +17,8 @@ impl<T: Drop, const N: usize> Reserve<T, N> {
     // The list itself, to be filled.
     pub fn into_vec(self) -> Vec<T>
         ensures none { vec_len result ≡ 0 }
-        ensures room { (N ≤ vec_capacity result) × (vec_capacity result ≡ room_of self) }
+        ensures room { N ≤ vec_capacity result }
+        ensures same { vec_capacity result ≡ room_of self }
     {
         let Reserve { values } = self;
         values

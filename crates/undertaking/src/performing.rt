@@ -25,7 +25,7 @@ pub struct Performance<G: Ground> {
 
 // Opens a site, makes every request, in order, and notes its answer; there is room for the answers.
 pub fn run<R: Request, G: Ground>(stage: Stage<R>, ground: G, settings: Settings) -> Performance<G>
-    ensures after { scene_of G.Ground.meaning result.site ≡ fold R.becomes (opened (G.Ground.meaning ground) (settings_of settings)) (requests_of stage) }
+    ensures after { scene_of result.site ≡ fold R.becomes (opened (G.Ground.meaning ground) (settings_of settings)) (requests_of stage) }
     ensures answers { map reply_of result.answers.items ≡ each_answers R.answers R.becomes (opened (G.Ground.meaning ground) (settings_of settings)) (requests_of stage) }
 {
     let mut answers = stage.answers;
@@ -38,7 +38,7 @@ pub fn run<R: Request, G: Ground>(stage: Stage<R>, ground: G, settings: Settings
 
 // Opens a site and makes every call, in order.
 pub fn perform<G: Ground>(stage: Stage<Call>, ground: G, settings: Settings) -> Performance<G>
-    ensures { Undertaking (G.Ground.meaning ground) (settings_of settings) (requests_of stage) (map reply_of result.answers.items) (scene_of G.Ground.meaning result.site) }
+    ensures { Undertaking (G.Ground.meaning ground) (settings_of settings) (requests_of stage) (map reply_of result.answers.items) (scene_of result.site) }
 {
     run(stage, ground, settings)
 }

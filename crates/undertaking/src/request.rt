@@ -17,8 +17,8 @@ pub trait Request: Drop {
 
     // Makes the request; a request is used up by it, refused or not.
     fn make<G: Ground>(self, site: &mut Site<G>) -> Answer
-        ensures answer { reply_of result ≡ answers (scene_of G.Ground.meaning site.old) self }
-        ensures after { scene_of G.Ground.meaning site.new ≡ becomes (scene_of G.Ground.meaning site.old) self };
+        ensures answer { reply_of result ≡ answers (scene_of site.old) self }
+        ensures after { scene_of site.new ≡ becomes (scene_of site.old) self };
 }
 
 impl Request for Call {

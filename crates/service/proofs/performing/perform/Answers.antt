@@ -20,5 +20,5 @@ returns g c =
     let site = c.run.ensures.after ∙ runs_folds (opened m s) given in
     let answers = c.run.ensures.answers ∙ replies_folds (opened m s) given in
     let S : Scene → Type 0 = Whole m s deeds (replies_to (opened m s) deeds) in
-    let A : List Reply → Type 0 = λ rs. Whole m s deeds rs (scene_of g.G.Ground.meaning c.run.result.site) in
+    let A : List Reply → Type 0 = λ rs. Whole m s deeds rs (scene_of c.run.result.site) in
     subst A (sym answers) (subst S (sym site) (whole m s (g.met.G.Ground.lawful c.args.ground) (proper c.args.settings) deeds))

@@ -17,5 +17,5 @@ returns g c =
     let site = c.run.ensures.after ∙ run_folds (opened m s) calls in
     let answers = c.run.ensures.answers ∙ replies_folds (opened m s) calls in
     let S : Scene → Type 0 = Undertaking m s calls (replies (opened m s) calls) in
-    let A : List Reply → Type 0 = λ rs. Undertaking m s calls rs (scene_of g.G.Ground.meaning c.run.result.site) in
+    let A : List Reply → Type 0 = λ rs. Undertaking m s calls rs (scene_of c.run.result.site) in
     subst A (sym answers) (subst S (sym site) (undertaken m s (g.met.G.Ground.lawful c.args.ground) (proper c.args.settings) calls))

@@ -9,8 +9,8 @@ use Rattle.undertaking.proofs.performing.run.Given as goal
 -- what the requests that are left make of the site, and answer, completes what all make of it; and there is room
 abbrev pub invariant-loop-request : goal.invariant-loop-request
 invariant-loop-request g l =
-    let v = scene_of g.G.Ground.meaning l.site in
-    let w = scene_of g.G.Ground.meaning l.initial.site in
+    let v = scene_of l.site in
+    let w = scene_of l.initial.site in
     let left = into_iter_items l.request-iterator in
     let all = into_iter_items l.initial.request-iterator in
     let replies = each_answers g.R.Request.answers g.R.Request.becomes in
