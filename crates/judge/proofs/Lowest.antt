@@ -6,15 +6,10 @@ use Rattle.std.proofs.lemmas.Bool.{both_ways, cases_Bool, cases_lt}
 use Rattle.plan.specs.declared.action.Action.{Action as Held}
 use Rattle.plan.specs.Plan.{Action, end_column, line}
 use Rattle.plan.specs.View.{action_of, plan_of}
-use Rattle.judge.specs.Finding.{Lowest}
+use Rattle.judge.specs.Finding.{Lowest, lower_of}
 
--- the lower of a column and the lowest of others, if there are any
-abbrev lower_of : Option ℕ → ℕ → ℕ
-lower_of None c = c
-lower_of (Some d) c = min c d
-
-lower_from : (c d : ℕ) (cs : List ℕ) → fold min (min c d) cs ≡ min c (fold min d cs)
-lower_from c d [] = refl
+lower_from : (c d : ℕ) (cs : List ℕ) → fold min (min c d) cs ≡ min (fold min d cs) c
+lower_from c d [] = omega arith
 lower_from c d (e ∷ cs) = let swap : min (min c d) e ≡ min c (min d e) = omega arith in ap (λ (n : ℕ). fold min n cs) swap ∙ lower_from c (min d e) cs
 
 lower_cons : (c : ℕ) (cs : List ℕ) → reduce min (c ∷ cs) ≡ Some (lower_of (reduce min cs) c)
@@ -43,11 +38,11 @@ module _ (p : Action → Bool) where
   lowest_yes a rest (Some d) y low = (at (cases_lt d (end_column a)) low.0, above)
     where
       at : (d < end_column a) ⊎ (end_column a ≤ d) → ((i : ℕ) × (i < length rest) × (p (line rest i) ≡ true) × (end_column (line rest i) ≡ d))
-          → (i : ℕ) × (i < length (a ∷ rest)) × (p (line (a ∷ rest) i) ≡ true) × (end_column (line (a ∷ rest) i) ≡ min (end_column a) d)
+          → (i : ℕ) × (i < length (a ∷ rest)) × (p (line (a ∷ rest) i) ≡ true) × (end_column (line (a ∷ rest) i) ≡ min d (end_column a))
       at (inl b) (i, l, t, e) = (suc i, omega arith, t, omega arith)
       at (inr g) w = (0, omega arith, y, omega arith)
 
-      above : (i : ℕ) → i < length (a ∷ rest) → p (line (a ∷ rest) i) ≡ true → min (end_column a) d ≤ end_column (line (a ∷ rest) i)
+      above : (i : ℕ) → i < length (a ∷ rest) → p (line (a ∷ rest) i) ≡ true → min d (end_column a) ≤ end_column (line (a ∷ rest) i)
       above zero l t = omega arith
       above (suc i) l t = omega (arith, low.1 i (omega arith) t)
 

@@ -1,5 +1,5 @@
 -- What searches over actions find: the first of some kind, and the lowest column. Assumes nothing.
-use Rattle.std.specs.Prelude.{◌≡◌, ℕ, ◌<◌, ◌≤◌, Bool, true, cond, not, ◌&&◌, ◌≢◌, List, [], ◌∷◌, length, Some, None, Option, nat_le, nat_lt}
+use Rattle.std.specs.Prelude.{◌≡◌, ℕ, ◌<◌, ◌≤◌, min, Bool, true, cond, not, ◌&&◌, ◌≢◌, List, [], ◌∷◌, length, Some, None, Option, nat_le, nat_lt}
 use Rattle.std.specs.Option.{option_map}
 use Rattle.terms.specs.declared.work.Work.TheVariants.{Leave}
 use Rattle.ground.specs.Meaning.{Meaning}
@@ -14,6 +14,11 @@ find p (x ∷ xs) = cond (p x) (Some x) (find p xs)
 
 abbrev pub line_in : Option Action → Option ℕ
 line_in o = option_map (λ a. a.line) o
+
+-- the lower of a column and what is the lowest so far
+abbrev pub lower_of : Option ℕ → ℕ → ℕ
+lower_of None c = c
+lower_of (Some d) c = min d c
 
 -- the lowest end column of those that pass a test, if there are any
 abbrev pub Lowest : (Action → Bool) → List Action → Option ℕ → Type 0

@@ -2,5 +2,6 @@ pub mod Judging
 pub mod Finding
 pub mod Figures
 pub mod Reasons
+pub mod Acceptance
 pub mod View
 pub mod Verdict

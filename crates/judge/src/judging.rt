@@ -9,7 +9,6 @@ ghost use Rattle.judge.specs.Figures.{Figures};
 ghost use Rattle.judge.specs.Judging.{end_tests, judging_refusal, tests_at};
 ghost use Rattle.judge.specs.Reasons.{judging_reasons};
 ghost use Rattle.judge.specs.Verdict.{Accepts, Keeps};
-ghost use Rattle.judge.specs.View.{acceptance_of};
 
 use crate::end::{first_left_behind, first_missed};
 use crate::figures::{costs, latest_end, most_at_once};
@@ -55,8 +54,8 @@ fn judge_end<G: Ground>(ground: &G, actions: &[Action], sheet: &Sheet) -> Result
 // An accepted plan, with its figures.
 fn accept(actions: Vec<Action>, targets: Vec<Target>) -> Accepted
     requires few { vec_len actions ≤ 1500 }
-    ensures plan { ((acceptance_of result).plan ≡ plan_of actions.items) × ((acceptance_of result).targets ≡ targets.items) }
-    ensures figures { Figures (acceptance_of result).plan (acceptance_of result).makespan (acceptance_of result).costs (acceptance_of result).most }
+    ensures plan { (result.plan ≡ plan_of actions.items) × (result.targets ≡ targets.items) }
+    ensures figures { Figures result.plan result.makespan result.costs result.most }
 {
     let plan = actions.as_slice();
     let makespan = latest_end(plan);
@@ -78,7 +77,7 @@ pub fn judge<G: Ground>(
     sheet: &[u8],
     room: Room,
 ) -> Result<Accepted, Refusal>
-    ensures value { Answers (judging_refusal (G.Ground.meaning ground.now) (settings_of settings.now) sheet.now) (λ a. Accepts (records_in sheet.now) (acceptance_of a)) result }
+    ensures value { Answers (judging_refusal (G.Ground.meaning ground.now) (settings_of settings.now) sheet.now) (λ a. Accepts (records_in sheet.now) a) result }
     ensures words { Settles (judging_reasons (G.Ground.meaning ground.now) (settings_of settings.now) sheet.now) (refusal_in result) }
     ensures rules { Decides (is_ok result) (Keeps (G.Ground.meaning ground.now) (settings_of settings.now) sheet.now) }
 {

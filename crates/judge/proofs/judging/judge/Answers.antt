@@ -14,14 +14,13 @@ use Rattle.plan.specs.View.{plan_of}
 use Rattle.judge.specs.Judging.{end_tests, judging_refusal}
 use Rattle.judge.specs.Reasons.{judging_reasons}
 use Rattle.judge.specs.Verdict.{Accepts, Keeps}
-use Rattle.judge.specs.View.{acceptance_of}
 use Rattle.judge.specs.declared.accepted.Accepted.{Accepted}
 use Rattle.judge.proofs.Timely.{timed}
 use Rattle.judge.proofs.Verdict.{at_end, at_lines, at_reading, decides_keeps, in_words}
 use Rattle.judge.proofs.judging.judge.Goals as goal
 
 abbrev Accepting : List ℕ → Accepted → Type 0
-Accepting sheet a = Accepts (records_in sheet) (acceptance_of a)
+Accepting sheet a = Accepts (records_in sheet) a
 
 -- what is answered, in words and by the rules
 verdict : (m : Meaning) (s : SiteSettings) (sheet : List ℕ) → Timed s → (r : Result Accepted Refusal) → Answers (judging_refusal m s sheet) (Accepting sheet) r
