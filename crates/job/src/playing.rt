@@ -6,7 +6,6 @@ ghost use Rattle.ground.specs.View.{square_of};
 ghost use Rattle.gate.specs.Scene.{height_at};
 ghost use Rattle.gate.specs.View.{scene_of};
 ghost use Rattle.undertaking.specs.Runs.{reply_of};
-ghost use Rattle.judge.specs.View.{acceptance_of};
 ghost use Rattle.terms.specs.View.{settings_of};
 ghost use Rattle.plan.specs.Rules.{Rules};
 ghost use Rattle.play.specs.Play.{play_on};
@@ -71,10 +70,10 @@ fn stopped(answers: &[Answer]) -> Result<(), Refusal>
 
 // Plays the plan of a job: why it was stopped, or the heights then.
 pub(crate) fn play_job(judged: Judged, room: PlayRoom) -> Result<Vec<u8>, Refusal>
-    ensures answer { refusal_in result ≡ (play_on (acceptance_of judged.plan).plan (site_of judged.job)).answer }
-    ensures comes { (targets : ℕ → ℕ) → Rules (square_of judged.job.ground) (settings_of judged.job.settings) (acceptance_of judged.plan).plan targets → Comes (square_of judged.job.ground) (settings_of judged.job.settings) (acceptance_of judged.plan).plan targets (play_on (acceptance_of judged.plan).plan (site_of judged.job)) }
+    ensures answer { refusal_in result ≡ (play_on judged.plan.plan (site_of judged.job)).answer }
+    ensures comes { (targets : ℕ → ℕ) → Rules (square_of judged.job.ground) (settings_of judged.job.settings) judged.plan.plan targets → Comes (square_of judged.job.ground) (settings_of judged.job.settings) judged.plan.plan targets (play_on judged.plan.plan (site_of judged.job)) }
     ensures few { IfOk result (λ hs. vec_len hs ≤ 256) }
-    ensures heights { IfOk result (λ hs. hs.items ≡ drawn (square_of judged.job.ground).columns (play_on (acceptance_of judged.plan).plan (site_of judged.job)).site) }
+    ensures heights { IfOk result (λ hs. hs.items ≡ drawn (square_of judged.job.ground).columns (play_on judged.plan.plan (site_of judged.job)).site) }
 {
     let Judged { job, plan } = judged;
     let Job { ground, settings } = job;

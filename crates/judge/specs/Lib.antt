@@ -2,6 +2,5 @@ pub mod Judging
 pub mod Finding
 pub mod Figures
 pub mod Reasons
-pub mod Acceptance
 pub mod View
 pub mod Verdict

@@ -7,7 +7,7 @@ use Rattle.sheet.specs.Reasons.{reading_reasons}
 use Rattle.sheet.specs.View.{Records, records_in}
 use Rattle.plan.specs.Rules.{SheetRules, written_plan}
 use Rattle.judge.specs.Figures.{Figures}
-use Rattle.judge.specs.Acceptance.{Acceptance}
+use Rattle.judge.specs.View.{Acceptance}
 
 -- the sheet reads, and its lines keep every rule
 pub record Keeps (m : Meaning) (s : SiteSettings) (sheet : List ℕ) : Type 0 where

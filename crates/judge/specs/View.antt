@@ -1,7 +1,12 @@
 -- What clauses read of an accepted plan. Assumes nothing.
-use Rattle.judge.specs.Acceptance.{Acceptance}
-use Rattle.judge.specs.declared.accepted.Accepted.{Accepted}
+use Rattle.std.specs.Prelude.{ℕ, List}
+use Rattle.sheet.specs.declared.target.Target.{Target}
+use Rattle.plan.specs.Plan.{Action}
 
--- a clause sees an accepted plan as what is accepted
-abbrev pub acceptance_of : Accepted → Acceptance
-acceptance_of a = a
+-- an accepted plan: its actions, its targets and its figures
+pub record Acceptance : Type 0 where
+  pub plan : List Action
+  pub targets : List Target
+  pub makespan : ℕ
+  pub costs : ℕ
+  pub most : ℕ

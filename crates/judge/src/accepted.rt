@@ -16,7 +16,7 @@ pub struct Accepted {
 impl Model for Accepted {
     ghost use Rattle.std.specs.Prelude.{vec_items};
     ghost use Rattle.plan.specs.View.{plan_of};
-    ghost use Rattle.judge.specs.Acceptance.{Acceptance};
+    ghost use Rattle.judge.specs.View.{Acceptance};
 
     ghost Value = { Acceptance };
 

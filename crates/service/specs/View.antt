@@ -1,7 +1,6 @@
 -- What clauses read of deeds, and of a stage. Assumes nothing.
 use Rattle.std.specs.Prelude.{List, map, vec_items}
 use Rattle.gate.specs.Scene.{Scene}
-use Rattle.judge.specs.View.{acceptance_of}
 use Rattle.undertaking.specs.declared.stage.Stage.{Stage}
 use Rattle.undertaking.specs.Runs.{Reply}
 use Rattle.service.specs.declared.deed.Deed.{Deed as Given}
@@ -10,7 +9,7 @@ use Rattle.service.specs.Deeds.{Deed, done, reply_to}
 
 abbrev pub deed_of : Given → Deed
 deed_of (Call k) = Deed.call k
-deed_of (Play accepted) = Deed.plays (acceptance_of accepted).plan
+deed_of (Play accepted) = Deed.plays accepted.plan
 
 -- the site after a deed as it is given, and its answer
 abbrev pub given_done : Scene → Given → Scene

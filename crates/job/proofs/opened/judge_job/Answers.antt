@@ -4,7 +4,6 @@ use Rattle.terms.specs.View.{settings_of}
 use Rattle.ground.specs.View.{square_of}
 use Rattle.sheet.specs.View.{records_in}
 use Rattle.judge.specs.Verdict.{Accepts, Keeps}
-use Rattle.judge.specs.View.{acceptance_of}
 use Rattle.job.specs.Replies.{ground_of}
 use Rattle.job.proofs.Joined.{sheet_decides, site_same}
 use Rattle.job.proofs.opened.judge_job.Goals as goal
@@ -25,7 +24,7 @@ returns c =
         site = site_same input order m s read.1.0 made.1.0 made.1.1;
         ground = made.1.0 ∙ ap ground_of (sym read.1.0);
         keeps = subst (λ (l : List ℕ). Keeps m s l) el (judged.rules.0 refl);
-        accepts = subst (λ (l : List ℕ). Accepts (records_in l) (acceptance_of c.in_ok-plan.plan)) el judged.value.1;
+        accepts = subst (λ (l : List ℕ). Accepts (records_in l) c.in_ok-plan.plan) el judged.value.1;
       },
     )
 

@@ -13,7 +13,6 @@ use Rattle.gate.specs.declared.order.Order.{Order}
 use Rattle.terms.specs.declared.refusal.Refusal.{Refusal}
 use Rattle.undertaking.specs.Runs.{Reply, by_refusal, reply_of}
 use Rattle.undertaking.specs.View.{requests_of, room_of}
-use Rattle.judge.specs.View.{acceptance_of}
 use Rattle.service.specs.Deeds.{Deed, replies_to, runs}
 use Rattle.service.specs.declared.deed.Deed.{Deed as Given}
 use Rattle.service.specs.declared.deed.Deed.TheVariants.{Play}
@@ -49,7 +48,7 @@ pub returns : goal.returns
 returns c =
     let stage = c.args.room.stage in
     let site = site_of c.args.judged.job in
-    let plan = (acceptance_of c.args.judged.plan).plan in
+    let plan = c.args.judged.plan.plan in
     let m = square_of c.args.judged.job.ground in
     let s = settings_of c.args.judged.job.settings in
     let ground = c.args.judged.job.ground in
@@ -71,7 +70,7 @@ pub returns-in_err-stopped : goal.returns-in_err-stopped
 returns-in_err-stopped c =
     let stage = c.args.room.stage in
     let site = site_of c.args.judged.job in
-    let plan = (acceptance_of c.args.judged.plan).plan in
+    let plan = c.args.judged.plan.plan in
     let one = one_deed (requests_of stage) (requests_of c.add.new.self) (Play c.args.judged.plan) (room_of stage) (is_ok c.add.result) c.args.room.no_deeds c.args.room.one_fits c.add.ensures.taken c.add.ensures.requests in
     let told =
     c.stopped.ensures ∙ ap (λ (l : List (Result (Option Order) Refusal)). first_refusal (map reply_of l)) c.deref.ensures.value

@@ -9,7 +9,6 @@ use Rattle.plan.specs.Plan.{Action, makespan}
 use Rattle.plan.specs.Rules.{Rules, target_of}
 use Rattle.sheet.specs.View.{records_in}
 use Rattle.judge.specs.Figures.{Figures, cost}
-use Rattle.judge.specs.View.{acceptance_of}
 use Rattle.play.specs.Play.{Outcome, play_on}
 use Rattle.play.specs.Stands.{Comes}
 use Rattle.draw.specs.Rows.{text as drawing}
@@ -35,26 +34,26 @@ figured plan m c k f =
 
 -- what was judged and played is the job's
 module _ (input : List ℕ) (j : Judged) (is : Judges input j) where
-  played : play_on (acceptance_of j.plan).plan (site_of j.job) ≡ outcome input
+  played : play_on j.plan.plan (site_of j.job) ≡ outcome input
   played = ap (λ (p : List Action). play_on p (site_of j.job)) is.accepts.plan ∙ ap (play_on (plan_in input)) is.site
 
-  came : ((targets : ℕ → ℕ) → Rules (square_of j.job.ground) (settings_of j.job.settings) (acceptance_of j.plan).plan targets
-      → Comes (square_of j.job.ground) (settings_of j.job.settings) (acceptance_of j.plan).plan targets (play_on (acceptance_of j.plan).plan (site_of j.job)))
+  came : ((targets : ℕ → ℕ) → Rules (square_of j.job.ground) (settings_of j.job.settings) j.plan.plan targets
+      → Comes (square_of j.job.ground) (settings_of j.job.settings) j.plan.plan targets (play_on j.plan.plan (site_of j.job)))
       → Comes (ground_of (order input)) (settings_of j.job.settings) (plan_in input) (target_of (records_in (sheet_in input)).targets) (outcome input)
   came comes =
       let s = settings_of j.job.settings in
       let t = target_of (records_in (sheet_in input)).targets in
       let rules = subst (λ (p : List Action). Rules (square_of j.job.ground) s p t) (sym is.accepts.plan) is.keeps.rules.rules in
       let a = comes t rules in
-      let b = subst (λ (m : Meaning). Comes m s (acceptance_of j.plan).plan t (play_on (acceptance_of j.plan).plan (site_of j.job))) is.ground a in
+      let b = subst (λ (m : Meaning). Comes m s j.plan.plan t (play_on j.plan.plan (site_of j.job))) is.ground a in
       let d = subst (λ (p : List Action). Comes (ground_of (order input)) s p t (play_on p (site_of j.job))) is.accepts.plan b in
       subst (λ (v : Scene). Comes (ground_of (order input)) s (plan_in input) t (play_on (plan_in input) v)) is.site d
 
   silent : job_refusal input ≡ None → Silent (job_reasons input)
   silent none = subst (Settles (job_reasons input)) none (job_settles input)
 
-  figures : Figures (plan_in input) (acceptance_of j.plan).makespan (acceptance_of j.plan).costs (acceptance_of j.plan).most
-  figures = subst (λ (p : List Action). Figures p (acceptance_of j.plan).makespan (acceptance_of j.plan).costs (acceptance_of j.plan).most) is.accepts.plan is.accepts.figures
+  figures : Figures (plan_in input) j.plan.makespan j.plan.costs j.plan.most
+  figures = subst (λ (p : List Action). Figures p j.plan.makespan j.plan.costs j.plan.most) is.accepts.plan is.accepts.figures
 
   -- the answer where nothing is refused
   goes_on : job_refusal input ≡ None → (a : Option Told) → (outcome input).answer ≡ a → answered input ≡ played_reply (ground_of (order input)).columns (plan_in input) a (outcome input).site
@@ -64,12 +63,12 @@ module _ (input : List ℕ) (j : Judged) (is : Judges input j) where
       ∙ ap (λ (o : Option Told). played_reply (ground_of (order input)).columns (plan_in input) o (outcome input).site) e
 
   abbrev On : Outcome
-  On = play_on (acceptance_of j.plan).plan (site_of j.job)
+  On = play_on j.plan.plan (site_of j.job)
 
   -- it was stopped in play
   held : {T : Type 0} (r : Result T Refusal) (out : Result Played Stop) → job_refusal input ≡ None → refusal_in r ≡ On.answer
-      → ((targets : ℕ → ℕ) → Rules (square_of j.job.ground) (settings_of j.job.settings) (acceptance_of j.plan).plan targets
-      → Comes (square_of j.job.ground) (settings_of j.job.settings) (acceptance_of j.plan).plan targets On)
+      → ((targets : ℕ → ℕ) → Rules (square_of j.job.ground) (settings_of j.job.settings) j.plan.plan targets
+      → Comes (square_of j.job.ground) (settings_of j.job.settings) j.plan.plan targets On)
       → MatchResult r (λ _. ⊥) (λ f. out ≡ Err (Stop.Held f)) → (written out ≡ answered input) × Verdict input (written out)
   held (Ok x) out none a comes m = absurd m
   held (Err f) out none a comes e =
@@ -81,13 +80,13 @@ module _ (input : List ℕ) (j : Judged) (is : Judges input j) where
 
   -- it was played to its end
   ended : (m c k : ℕ) (hs : List ℕ) → job_refusal input ≡ None → None ≡ On.answer
-      → ((targets : ℕ → ℕ) → Rules (square_of j.job.ground) (settings_of j.job.settings) (acceptance_of j.plan).plan targets
-      → Comes (square_of j.job.ground) (settings_of j.job.settings) (acceptance_of j.plan).plan targets On)
-      → m ≡ (acceptance_of j.plan).makespan → c ≡ (acceptance_of j.plan).costs → k ≡ (acceptance_of j.plan).most
+      → ((targets : ℕ → ℕ) → Rules (square_of j.job.ground) (settings_of j.job.settings) j.plan.plan targets
+      → Comes (square_of j.job.ground) (settings_of j.job.settings) j.plan.plan targets On)
+      → m ≡ j.plan.makespan → c ≡ j.plan.costs → k ≡ j.plan.most
       → hs ≡ heights (square_of j.job.ground).columns On.site
       → (row (codes "OK  ") m c k ++ drawing hs ≡ answered input) × Verdict input (row (codes "OK  ") m c k ++ drawing hs)
   ended m c k hs none a comes em ec ek eh =
-      let plan = acceptance_of j.plan in
+      let plan = j.plan in
       let n = (ground_of (order input)).columns in
       let stays : (outcome input).answer ≡ None = ap (λ (o : Outcome). o.answer) (sym played) ∙ sym a in
       let drawn : hs ≡ heights n (outcome input).site =
