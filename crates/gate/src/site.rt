@@ -6,6 +6,7 @@ use ground::Ground;
 use terms::Settings;
 
 // The columns have heights and states; the marks say which columns are changing.
+// No model, which is a value without functions: a clause reads a site as its scene, with the meaning of the ground.
 #[derive(Drop)]
 pub struct Site<G: Ground> {
     pub(crate) floor: G,

@@ -57,6 +57,7 @@ fn filled(border: &[u8], links: &[(u16, u16)]) -> Option<[Row; 256]>
     let mut rows = bordered(border);
     for link in links {
         let (lower, higher) = *link;
+        // Widened by `as`: the proof speaks of the link's own numbers, and not of what two calls of `from` give.
         rows[lower as usize] = rows[lower as usize].with_link(higher)?;
         rows[higher as usize] = rows[higher as usize].with_link(lower)?;
     }

@@ -12,6 +12,7 @@ use ground::Ground;
 
 impl Ways {
     // The fewest steps home of every column, with the heights of the columns and the marks of those that are changing.
+    // A mark is any byte, 0 where the column is settled: to take bools would ask more of callers.
     pub fn search<G: Ground, C: Tall>(ground: &G, columns: &[C], marks: &[u8]) -> Ways
         ensures value { (c : ℕ) → steps_in result c ≡ steps (G.Ground.meaning ground.now) (relief_by C.Tall.tallness columns.now marks.now) c }
         ensures words { (c : ℕ) → StepsHome (G.Ground.meaning ground.now) (relief_by C.Tall.tallness columns.now marks.now) c (steps_in result c) }

@@ -36,7 +36,7 @@ impl<G: Ground, C: Tall> Terrain<'_, G, C> {
         requires { column < 256 }
         ensures { result ≡ gains (G.Ground.meaning self.now.ground.now) (relief_of C.Tall.tallness self.now) (label steps.now) n column }
     {
-        steps[column as usize].is_none()
+        steps[usize::from(column)].is_none()
             && is_settled(self.marks, column)
             && lowest_beside(self.ground, self.columns, steps, column, n).is_some()
     }
@@ -48,7 +48,7 @@ impl<G: Ground, C: Tall> Terrain<'_, G, C> {
         ensures still { result ≡ false → steps.new ≡ steps.old }
     {
         let mut grown = false;
-        // By number and in place: a turn reads the labels of other columns while it writes its own.
+        // By number, widened by `as`, and in place: a turn reads the labels of other columns while it writes its own.
         for column in 0..self.ground.columns() {
             if self.gains(steps, n, column) {
                 steps[column as usize] = Some(n + 1);
