@@ -7,3 +7,4 @@ pub mod Sums
 pub mod Picks
 pub mod Recalling
 pub mod Least
+pub mod Ticked

@@ -6,6 +6,7 @@ use Rattle.terms.specs.Ranges.{settings_from, settings_reasons, settings_refusal
 use Rattle.terms.specs.Refusals.{Settles, Told, first_of, or_else, told}
 use Rattle.terms.specs.declared.refusal.Rule.TheVariants.{SheetShape, LineShape, FieldUnreadable, SquareSize, SettingsRange}
 use Rattle.terms.proofs.First.{first_settles}
+use Rattle.terms.proofs.Tests.{decides_leb}
 use Rattle.ground.specs.Squared.{square_reasons, square_refusal, squared}
 use Rattle.sheet.specs.Lines.{spelt}
 use Rattle.sheet.specs.Reading.{reading_refusal}
@@ -78,9 +79,6 @@ order_settles input =
         (field_decides (order input), field_tells (order input), tt),
       ),
     )
-
-decides_leb : (a b : ℕ) → Decides (leb a b) (a ≤ b)
-decides_leb a b = grind (arith, nat_tests)
 
 within_decides : (low high n : ℕ) → Decides (within low high n) ((low ≤ n) × (n ≤ high))
 within_decides low high n = Decides-and (leb low n) (leb n high) (decides_leb low n) (decides_leb n high)

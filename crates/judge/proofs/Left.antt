@@ -4,6 +4,7 @@ use Rattle.std.proofs.Common.{◌≡◌, ℕ, ◌<◌, ◌≤◌, Bool, true, fa
 use Rattle.std.specs.Option.{option_map}
 use Rattle.std.proofs.lemmas.Bool.{cases_Bool, cases_lt}
 use Rattle.std.proofs.lemmas.Bool.Decides.{Decides-and, Decides-eqb, Decides-like, Decides-ltb, Decides-not}
+use Rattle.terms.proofs.Tests.{decides_leb}
 use Rattle.terms.specs.Refusals.{first_of, from_on, told}
 use Rattle.terms.specs.declared.refusal.Rule.TheVariants.{LeftStanding}
 use Rattle.terms.specs.declared.work.Work.TheVariants.{Leave}
@@ -11,7 +12,7 @@ use Rattle.ground.specs.Meaning.{Meaning}
 use Rattle.plan.specs.Judged.{IsLeftStanding}
 use Rattle.plan.specs.Plan.{Action, carried, end_column, is_leave, line, no_action}
 use Rattle.plan.specs.Rules.{Carried}
-use Rattle.plan.proofs.Searches.{decides_carried, decides_leb, decides_no_leave, decides_some_of}
+use Rattle.plan.proofs.Searches.{decides_carried, decides_no_leave, decides_some_of}
 use Rattle.judge.specs.Finding.{Lowest, Settled, left_between}
 use Rattle.judge.specs.Judging.{latest_start, left_by, left_standing}
 use Rattle.judge.proofs.Chains.{lowest_from, nothing_from}

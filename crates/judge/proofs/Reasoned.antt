@@ -8,6 +8,7 @@ use Rattle.terms.specs.declared.refusal.Rule.TheVariants.{LeftBehind, LeftStandi
 use Rattle.terms.specs.declared.work.Work.{Work}
 use Rattle.terms.specs.declared.work.Work.TheVariants.{Entry, Leave, Wait, Move, PickUp, Deliver}
 use Rattle.terms.proofs.First.{Decide, decide_append, decide_on, first_settles}
+use Rattle.terms.proofs.Tests.{decides_leb}
 use Rattle.ground.specs.Meaning.{Meaning}
 use Rattle.sheet.specs.View.{Records}
 use Rattle.sheet.specs.declared.record.ActLine.{ActLine}
@@ -18,7 +19,7 @@ use Rattle.plan.specs.Reasons.{line_reasons}
 use Rattle.plan.specs.Times.{Holds}
 use Rattle.plan.specs.Rules.{Follows, Heights, Written, written_plan, target_of, written}
 use Rattle.plan.proofs.Lined.{decides_alike, line_decides}
-use Rattle.plan.proofs.Searches.{decides_carried, decides_ends, decides_leb, decides_no_entry, decides_no_leave, decides_some_of}
+use Rattle.plan.proofs.Searches.{decides_carried, decides_ends, decides_no_entry, decides_no_leave, decides_some_of}
 use Rattle.judge.specs.Judging.{collide, crowd, end_tests, falls, fits, from_somewhere, goes_on_from, heights_fit, judge_tests, latest_start, left_behind, left_standing, missed, overlap, sheet_tests, tests_at}
 use Rattle.judge.specs.Reasons.{IsLeftBehind, end_reasons, judge_reasons, reasons_at, sheet_reasons}
 use Rattle.judge.proofs.Left.{decides_left}

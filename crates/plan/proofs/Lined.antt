@@ -6,6 +6,7 @@ use Rattle.terms.specs.Durations.{SiteSettings}
 use Rattle.terms.specs.declared.work.Work.{Work}
 use Rattle.terms.specs.declared.work.Work.TheVariants.{Entry, Leave, Wait, Move, PickUp, Deliver}
 use Rattle.terms.proofs.First.{Decide}
+use Rattle.terms.proofs.Tests.{decides_is, decides_isnt}
 use Rattle.ground.specs.Meaning.{Meaning}
 use Rattle.sheet.specs.declared.record.ActLine.{ActLine}
 use Rattle.sheet.specs.declared.record.Letter.{Letter}
@@ -19,12 +20,6 @@ use Rattle.plan.proofs.Searches.{stable}
 pub decides_alike : (a b : Bool) → Decides (alike a b) (a ≡ b)
 decides_alike true b = (λ e. sym e, λ e. sym e)
 decides_alike false b = (λ e. sym (not-true b e), λ e. not_from_false b (sym e))
-
-decides_is : (b : Bool) → Decides b (b ≡ true)
-decides_is b = (λ e. e, λ e. e)
-
-decides_isnt : (b : Bool) → Decides (not b) (b ≡ false)
-decides_isnt b = (λ e. not-true b e, λ e. not_from_false b e)
 
 always : Decides true (Unit {0})
 always = (λ _. tt, λ _. refl)

@@ -2,6 +2,7 @@
 use Rattle.std.proofs.Common.{◌≡◌, ℕ, zero, suc, ◌<◌, ◌≤◌, Bool, true, false, not, ◌||◌, eqb, ltb, leb, ◌≢◌, List, [], ◌∷◌, length, get_or, Decides, sym, refl, ⊎_elim, arith}
 use Rattle.std.proofs.lemmas.Bool.{or_left, or_right, or_cases, true≢false}
 use Rattle.std.proofs.lemmas.Bool.Decides.{Decides-and, Decides-eqb, Decides-like, Decides-ltb, nat_tests}
+use Rattle.terms.proofs.Tests.{decides_leb}
 use Rattle.terms.specs.declared.work.Work.{Work}
 use Rattle.terms.specs.declared.work.Work.TheVariants.{Entry, Leave, Wait, Move, PickUp, Deliver}
 use Rattle.plan.specs.Plan.{Action, Ends, Runs, Starts, carried, end_column, ends, is_entry, is_leave, no_action, runs, some_of, starts}
@@ -11,9 +12,6 @@ use Rattle.plan.specs.Rules.{Carried}
 pub stable : {P : Type 0} (b : Bool) → Decides b P → ((P → ⊥) → ⊥) → P
 stable true d n = d.0 refl
 stable false d n = absurd (n (λ p. true≢false (sym (d.1 p))))
-
-pub decides_leb : (a b : ℕ) → Decides (leb a b) (a ≤ b)
-decides_leb a b = grind (arith, nat_tests)
 
 yes : {P : Type 0} → P → Decides true P
 yes p = (λ _. p, λ _. refl)

@@ -10,11 +10,6 @@ use Rattle.plan.specs.Plan.{Action, Touches}
 use Rattle.play.specs.Play.{left, longest}
 use Rattle.play.specs.Shown.{shown}
 
-pub at_tick : (xs : Columns) (c : ℕ) → at (tick_all xs) c ≡ ticked (at xs c)
-at_tick [] c = refl
-at_tick (x ∷ xs) zero = refl
-at_tick (x ∷ xs) (suc c) = at_tick xs c
-
 pub at_opened : (n c : ℕ) → at (replicate n fresh) c ≡ fresh
 at_opened zero c = refl
 at_opened (suc n) zero = refl

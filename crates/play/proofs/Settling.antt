@@ -12,7 +12,8 @@ use Rattle.gate.specs.Column.{fresh, next, rest, runs, stays, ticked}
 use Rattle.gate.specs.Gate.{grant, granted, refusal, settle, step}
 use Rattle.gate.specs.Scene.{Columns, Scene, put, state_at, tick_all}
 use Rattle.play.specs.Play.{Settles, left, longest, settled, ticks}
-use Rattle.play.proofs.Columns.{at_tick, longest_is, put_length}
+use Rattle.gate.proofs.Ticked.{at_tick}
+use Rattle.play.proofs.Columns.{longest_is, put_length}
 
 left_runs : (z : State) → 0 < left z → runs z ≡ true
 left_runs Free l = absurd (omega arith)

@@ -18,7 +18,7 @@ use Rattle.plan.proofs.Judged.{not_yet}
 use Rattle.play.specs.Shown.{Holder, NoneStarts, shown}
 use Rattle.play.specs.Shown.Holder.{by_running, by_ended}
 use Rattle.play.proofs.Faces.{Fits, delivers_same, last_height, last_level, later, never_free, picks_same, rest_either, rest_end, rest_of, shown_last, shown_more}
-use Rattle.play.proofs.Columns.{at_tick}
+use Rattle.gate.proofs.Ticked.{at_tick}
 use Rattle.play.proofs.Counts.{count_but_one}
 use Rattle.play.proofs.Plans.{Obeys, ended_ran, ended_touches, goes_on, longer, two}
 use Rattle.play.proofs.Site.{Shows}

@@ -7,6 +7,7 @@ use Rattle.terms.specs.Durations.{SiteSettings}
 use Rattle.terms.specs.Refusals.{Settles, from_on, told}
 use Rattle.terms.specs.declared.refusal.Rule.TheVariants.{SheetShape}
 use Rattle.terms.proofs.First.{Decide, decide_on, decides_some, first_settles}
+use Rattle.terms.proofs.Tests.{decides_leb}
 use Rattle.ground.specs.Meaning.{Meaning}
 use Rattle.sheet.specs.declared.record.Record.{Record}
 use Rattle.sheet.specs.declared.record.Record.TheVariants.{Goal, Act, Note, End}
@@ -14,9 +15,6 @@ use Rattle.sheet.specs.declared.target.Target.{Target}
 use Rattle.sheet.specs.Lines.{Word, bad_field, bad_shape, fields, misshapen, plain_byte, printable, word}
 use Rattle.sheet.specs.Reading.{acts, bad_sheet, end_misplaced, goal_fits, goal_misplaced, line_at, lines_in, reading_refusal, rises, shown_at, targets, tests_at}
 use Rattle.sheet.specs.Reasons.{BadSheet, BadShape, IsEndMisplaced, GoalFits, IsGoalMisplaced, Printable, reading_reasons, reasons_at}
-
-decides_leb : (a b : ℕ) → Decides (leb a b) (a ≤ b)
-decides_leb a b = grind (arith, nat_tests)
 
 sheet_decides : (sheet : List ℕ) → Decides (bad_sheet sheet) (BadSheet sheet)
 sheet_decides sheet =

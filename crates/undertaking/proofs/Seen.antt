@@ -18,12 +18,6 @@ at_opening m c = elim (cases_lt c m.columns) [
   | inr g ↦ get_or_past (opening m) c fresh (omega (arith, length-replicate m.columns fresh))
 ]
 
-pub at_tick : (xs : Columns) (c : ℕ) → at (tick_all xs) c ≡ ticked (at xs c)
-at_tick xs c = elim (cases_lt c (length xs)) [
-  | inl l ↦ get_or-map ticked xs c fresh fresh l
-  | inr g ↦ get_or_past (tick_all xs) c fresh (omega (arith, length-map xs ticked)) ∙ ap ticked (sym (get_or_past xs c fresh g))
-]
-
 -- a column that is read as other than fresh is within
 pub within : (xs : Columns) (c : ℕ) → (at xs c ≢ fresh) → c < length xs
 within xs c e = elim (cases_lt c (length xs)) [ inl l ↦ l | inr g ↦ absurd (e (get_or_past xs c fresh g)) ]
