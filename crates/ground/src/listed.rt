@@ -5,6 +5,7 @@ ghost use Rattle.ground.specs.Table.{in_row, no_row, tabled};
 
 use crate::row::Row;
 
+// There are 256 rows, whatever the ground: memory is fixed, and a ground is made without a heap.
 #[derive(Drop)]
 pub struct Listed {
     pub(crate) columns: u16,

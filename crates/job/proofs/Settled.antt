@@ -1,7 +1,7 @@
 -- Each test of a job decides its reason in words, so the first that holds settles the job. Assumes nothing.
 use Rattle.std.proofs.Common.{◌≡◌, ℕ, ◌<◌, ◌≤◌, not, ◌&&◌, eqb, leb, List, [], ◌∷◌, ◌++◌, length, get_or, take, is_some, Some, None, Ok, Err, codes, Decides, Option, Result, unwrap_or, refl, arith}
 use Rattle.std.specs.Result.{result_err}
-use Rattle.std.proofs.lemmas.Bool.Decides.{Decides-and, Decides-eqb, Decides-like, Decides-ltb, Decides-not, nat_tests}
+use Rattle.std.proofs.lemmas.Bool.Decides.{Decides-and, Decides-eqb, Decides-like, Decides-ltb, Decides-not}
 use Rattle.terms.specs.Ranges.{settings_from, settings_reasons, settings_refusal, within}
 use Rattle.terms.specs.Refusals.{Settles, Told, first_of, or_else, told}
 use Rattle.terms.specs.declared.refusal.Rule.TheVariants.{SheetShape, LineShape, FieldUnreadable, SquareSize, SettingsRange}

@@ -52,6 +52,7 @@ fn read_heights<G: Ground>(site: &Site<G>, columns: u16, room: Reserve<u8, MOST_
     ensures read { result.items ≡ map (height_at (scene_of site.now).columns) (range_with_len 0 columns) }
 {
     let mut heights = room.into_vec();
+    // By number: a site tells of its columns one by one, and lends no list of them.
     for column in 0..columns {
         heights.push_reserved(site.look(column).height);
     }

@@ -36,6 +36,7 @@ fn play_out(input: &[u8], judging: Room, playing: PlayRoom) -> Result<Played, St
     let judged = judge_job(input, judging).map_err(Stop::Bad)?;
     let makespan = u64::from(judged.plan.makespan());
     let costs = judged.plan.costs();
+    // By `as`: there is no `From` between a usize and a u64.
     let most = judged.plan.most() as u64;
     let heights = play_job(judged, playing).map_err(Stop::Held)?;
     Ok(Played {

@@ -21,6 +21,7 @@ use sheet::{Sheet, Target, read_sheet};
 use terms::{Refusal, Reserve, Rule, Settings};
 
 // The actions that the lines of a sheet stand for, or the first rule that a line breaks.
+// Ground and settings come apart, as `judge` is given them: a struct of both would be made for two calls.
 fn judge_lines<G: Ground>(
     ground: &G,
     settings: &Settings,

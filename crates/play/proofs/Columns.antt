@@ -3,8 +3,8 @@ use Rattle.std.proofs.Common.{◌≡◌, ℕ, zero, suc, ◌<◌, ◌≤◌, ◌
 use Rattle.std.proofs.lemmas.Bool.{cases_eq}
 use Rattle.gate.specs.declared.column.Column.{Column}
 use Rattle.gate.specs.declared.column.State.{State}
-use Rattle.gate.specs.Column.{column, fresh, ticked}
-use Rattle.gate.specs.Scene.{Columns, at, put, state_at, tick_all}
+use Rattle.gate.specs.Column.{column, fresh}
+use Rattle.gate.specs.Scene.{Columns, at, put, state_at}
 use Rattle.gate.specs.Scene.{height_at as height_in}
 use Rattle.plan.specs.Plan.{Action, Touches}
 use Rattle.play.specs.Play.{left, longest}

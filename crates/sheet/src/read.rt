@@ -40,6 +40,7 @@ impl<'a, G: Ground> Reader<'a, G> {
         let last = number == self.total;
         let rule = match shown {
             Record::Goal { column, height } if !self.is_fit(column, height) => Rule::GoalMisplaced,
+            // By `as`: there is no `From` between a u32 and a usize.
             Record::End { count } if last && count as usize == self.acts.len() => return Ok(()),
             Record::End { .. } => Rule::EndMisplaced,
             _ if last => Rule::EndMisplaced,

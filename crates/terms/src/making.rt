@@ -20,6 +20,7 @@ const SETS: [[u8; 6]; 4] = [
 fn duration_set(number: u32) -> Option<Durations>
     ensures { option_map times_of result ≡ duration_set number }
 {
+    // By `as`: there is no `From` between a u32 and a usize.
     let [entry, leave, loaded, empty, pickup, deliver] = *SETS.get(number as usize)?;
     Some(Durations {
         entry,

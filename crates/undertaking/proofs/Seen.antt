@@ -1,10 +1,10 @@
 -- What is read of a site after a tick, and after an action began. Assumes nothing.
 use Rattle.std.proofs.Common.{◌≡◌, ℕ, ◌+◌, ◌<◌, ◌≢◌, length, sym, ap, ◌∙◌, subst, inl, inr, arith}
-use Rattle.std.proofs.lemmas.List.{get_or_past, get_or-map, length-map, get_or-set_same, get_or-set_other, length-set, get_or-replicate, length-replicate}
+use Rattle.std.proofs.lemmas.List.{get_or_past, get_or-set_same, get_or-set_other, length-set, get_or-replicate, length-replicate}
 use Rattle.std.proofs.lemmas.Bool.{cases_lt, cases_eq}
 use Rattle.gate.proofs.Sums.{sum_change, sum_change_two}
-use Rattle.gate.specs.Column.{fresh, facing, ticked}
-use Rattle.gate.specs.Scene.{Columns, at, height_at, put, begin, tick_all, sum_below}
+use Rattle.gate.specs.Column.{fresh, facing}
+use Rattle.gate.specs.Scene.{Columns, at, height_at, put, begin, sum_below}
 use Rattle.gate.specs.declared.column.Column.{Column}
 use Rattle.gate.specs.declared.column.Part.{Part}
 use Rattle.gate.specs.declared.column.State.{State}

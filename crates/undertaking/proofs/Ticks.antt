@@ -12,7 +12,7 @@ use Rattle.gate.specs.declared.column.State.TheVariants.{Busy}
 use Rattle.ground.specs.Meaning.{Meaning}
 use Rattle.terms.specs.Durations.{SiteSettings}
 use Rattle.undertaking.proofs.Plain.{relief}
-use Rattle.ways.specs.Way.{Relief, Way, Settled}
+use Rattle.ways.specs.Way.{Relief, Way}
 use Rattle.ways.specs.Way.Way.{home, onward}
 use Rattle.gate.proofs.Recalling.{way_settled}
 use Rattle.gate.proofs.Ticked.{at_tick}

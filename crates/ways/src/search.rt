@@ -23,6 +23,7 @@ impl Ways {
             marks,
         };
         let mut steps = terrain.start();
+        // By number: round n gives the label n + 1, and there are no more labels than columns.
         for n in 0..ground.columns() {
             if !terrain.round(&mut steps, n) {
                 return Ways { steps };
