@@ -5,7 +5,8 @@ use crate::column::Column;
 use ground::Ground;
 use terms::Settings;
 
-// The columns have heights and states; the marks say which columns are changing.
+// The columns have heights and states; the marks say which columns are changing, in bytes, as a search for
+// ways home takes them.
 // No model, which is a value without functions: a clause reads a site as its scene, with the meaning of the ground.
 #[derive(Drop)]
 pub struct Site<G: Ground> {

@@ -52,6 +52,7 @@ impl Trial<'_> {
     fn all_home<G: Ground>(&self, ground: &G, columns: &[Column]) -> Result<(), Stranded>
         ensures { stranded_in result ≡ lowest_stranded (G.Ground.meaning ground.now) columns.now (lying columns.now (marked self.now.marks.now)) }
     {
+        // A `match`, since what is found is the error: `map_or(Ok(()), ..)` reads backwards.
         match lowest_stranded(ground, columns, self.marks) {
             Some(column) => Err(Stranded { column }),
             None => Ok(()),

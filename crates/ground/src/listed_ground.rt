@@ -24,6 +24,7 @@ fn is_border_list(columns: u16, border: &[u8]) -> bool
 }
 
 // Whether each link goes from a lower column to a higher one of the ground, and is above the one before it.
+// One `for` with the link before: chains would go over the links twice, for their order and for their ends.
 fn is_link_list(columns: u16, links: &[(u16, u16)]) -> bool
     ensures { result ≡ ascends columns (0, 0) links.now }
 {
@@ -66,6 +67,7 @@ fn filled(border: &[u8], links: &[(u16, u16)]) -> Option<[Row; 256]>
 
 impl Listed {
     // The ground of a border list, a byte for each column, and of links, each by its lower and its higher column.
+    // Bytes, and not bools: one that is neither 0 nor 1 is refused, and to take bools would ask more of callers.
     pub fn new(columns: u16, border: &[u8], links: &[(u16, u16)]) -> Result<Listed, Refusal>
         ensures value { Answers (listing_refusal columns border.now links.now) (λ l. Same (listed_of l) (listed columns border.now links.now)) result }
         ensures words { Settles (listing_reasons columns border.now links.now) (refusal_in result) }
