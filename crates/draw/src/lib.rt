@@ -1,7 +1,7 @@
-// Drawing heights into a buffer.
+// Numbers in so many places, and the drawing of heights into a buffer.
 #![tactic(auto)]
 
-ghost use Rattle.std.specs.Prelude.{◌≡◌, ℕ, ◌+◌, ◌*◌, ◌/◌, ◌<◌, ◌≤◌, ◌++◌, length, drop, IfOk, IfErr};
+ghost use Rattle.std.specs.Prelude.{◌≡◌, ◌+◌, ◌*◌, ◌/◌, ◌<◌, ◌≤◌, ◌++◌, length, drop, IfOk, IfErr};
 ghost use Rattle.terms.specs.Refusals.{Answers};
 ghost use Rattle.terms.specs.declared.refusal.Rule.TheVariants.{BufferShort};
 ghost use Rattle.draw.specs.Rows.{buffered, draw_refusal, row_text, text};
@@ -27,6 +27,7 @@ fn write_row(heights: &[u8], out: &mut [u8])
     requires { length out.old ≡ 3 * length heights.now + 1 }
     ensures { out.new ≡ row_text heights.now }
 {
+    // By number, as rows are: of what is written through `chunks_mut` a proof knows nothing.
     for (i, h) in heights.iter().enumerate() {
         out[3 * i..3 * i + 3].copy_from_slice(&justified::<3>(u64::from(*h)));
     }

@@ -39,7 +39,7 @@ impl<G: Ground> Site<G> {
         }
     }
 
-    // Begins the two parts of an action.
+    // Begins the two parts of an action. Columns and parts are named apart, since a part names the other column and not its own.
     fn begin(&mut self, from: u16, here: Part, to: u16, there: Part, left: u8)
         ensures { scene_of self.new ≡ with_columns (scene_of self.old) (put (put (scene_of self.old).columns from (Busy here left)) to (Busy there left)) }
     {
@@ -156,6 +156,7 @@ fn renew_marks(columns: &[Column], marks: &mut [u8; 256])
     requires { length columns.now ≤ 256 }
     ensures { marks.new ≡ renewed_marks (length columns.now) columns.now marks.old }
 {
+    // By place: of what is written through `iter_mut` beside another list a proof knows nothing.
     for (at, column) in columns.iter().enumerate() {
         marks[at] = u8::from(column.state.is_changing());
     }

@@ -88,6 +88,7 @@ fn is_stranded(columns: &[Column], ways: &Ways, column: u16) -> bool
 }
 
 // Marks a column as changing, unless a robot then has no way home: the lowest column of such a robot is told, and no mark is left.
+// Ground, columns and marks go apart: the guard holds the marks as its own, and lends them to the search.
 pub(crate) fn try_change<G: Ground>(
     ground: &G,
     columns: &[Column],

@@ -24,7 +24,7 @@ fn is_border_list(columns: u16, border: &[u8]) -> bool
 }
 
 // Whether each link goes from a lower column to a higher one of the ground, and is above the one before it.
-// One `for` with the link before: chains would go over the links twice, for their order and for their ends.
+// A `for` with the link before: `is_sorted_by` for their order and `all` for their ends are no plainer, two tests for one.
 fn is_link_list(columns: u16, links: &[(u16, u16)]) -> bool
     ensures { result ≡ ascends columns (0, 0) links.now }
 {

@@ -6,6 +6,7 @@ ghost use Rattle.ground.specs.Walk.{still_linked};
 
 use crate::Ground;
 
+// It counts by hand: the type of `(0..).map_while(..)` has no name, so no function can give it.
 #[derive(Drop)]
 pub struct Neighbours<'a, G: Ground> {
     pub(crate) ground: &'a G,

@@ -1,6 +1,5 @@
 // Making a square ground, and what it tells.
-ghost use Rattle.std.specs.Prelude.{◌≡◌, ◌≤◌, length};
-ghost use Rattle.std.specs.List.{slice_get};
+ghost use Rattle.std.specs.Prelude.{◌≡◌, ◌≤◌};
 ghost use Rattle.terms.specs.Refusals.{Answers, Settles, refusal_in};
 ghost use Rattle.ground.specs.Meaning.{neighbours};
 ghost use Rattle.ground.specs.Members.{somes};

@@ -81,12 +81,12 @@ fn asked(line: &ActLine) -> Asked
 
 // Where a plan is carried out.
 #[derive(Drop)]
-struct Site<'a, G: Ground> {
+struct Hall<'a, G: Ground> {
     ground: &'a G,
     settings: &'a Settings,
 }
 
-impl<'a, G: Ground> Site<'a, G> {
+impl<'a, G: Ground> Hall<'a, G> {
     // The spot at a point, where its column is on the ground and comes no higher than the highest height.
     fn spot(&self, work: Work, point: Point) -> Option<Spot>
         ensures { let fits = nat_lt point.column (G.Ground.meaning self.now.ground.now).columns && nat_lt (top work point.height) (settings_of self.now.settings.now).levels in MatchOption result (fits ≡ false) (λ s. (fits ≡ true) × (s.column ≡ point.column) × (s.height ≡ point.height)) }
@@ -160,6 +160,6 @@ pub fn action_of<G: Ground>(
 ) -> Result<Action, Refusal>
     ensures { Answers (first_of (line_tests (G.Ground.meaning ground.now) (settings_of settings.now) line.now)) (λ a. action_of a ≡ written_action line.now) result }
 {
-    let read = Site { ground, settings }.read_action(line);
+    let read = Hall { ground, settings }.read_action(line);
     read.map_err(|rule| Refusal::at(rule, line.line, 0))
 }

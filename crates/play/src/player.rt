@@ -1,8 +1,6 @@
 // Plays a list of actions on a site: each call at its time, until one is refused.
 ghost use Rattle.std.specs.Prelude.{◌≡◌, ◌-◌, nat_lt};
 ghost use Rattle.terms.specs.Refusals.{refusal_in, told_of};
-ghost use Rattle.gate.specs.Column.{runs};
-ghost use Rattle.gate.specs.Scene.{state_at};
 ghost use Rattle.gate.specs.View.{scene_of};
 ghost use Rattle.plan.specs.View.{action_of, plan_of};
 ghost use Rattle.play.specs.Play.{call_of, called, is_fresh, longest, on_line, play, play_on, refusal_of, settled, ticks};
@@ -21,7 +19,7 @@ fn wait<G: Ground>(site: &mut Site<G>, time: u32, until: u32)
     }
 }
 
-// Whether an action runs at some column; no ground has more than 256.
+// Whether an action runs at some column; no ground has more than 256. Over all that there may be, since `settled` is stated so.
 fn is_running<G: Ground>(site: &Site<G>) -> bool
     ensures { result ≡ nat_lt 0 (longest (scene_of site.now).columns 256) }
 {

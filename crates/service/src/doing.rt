@@ -1,6 +1,4 @@
 // A deed as a request of a site.
-ghost use Rattle.undertaking.specs.Runs.{reply_of};
-ghost use Rattle.gate.specs.View.{scene_of};
 ghost use Rattle.service.specs.View.{given_done, given_reply};
 
 use crate::deed::Deed;

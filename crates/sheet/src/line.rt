@@ -10,7 +10,8 @@ use terms::{Refusal, Rule};
 // How many bytes a line has, with its newline.
 pub(crate) const LINE: usize = 35;
 
-// A line of one of the four kinds: its number and the bytes of its fields.
+// A line of one of the four kinds: its number and the bytes of its fields. An enum of borrowed lines, a form that is asked for:
+// what a kind of line holds is said at the kind.
 #[derive(Drop)]
 pub(crate) enum Line<'a> {
     Goal { number: u16, fields: &'a [u8; 30] },

@@ -1,4 +1,4 @@
-// What every part shares: the refusals, the kinds of work that a robot does, and the settings of a site.
+// What every part shares: the refusals, the kinds of work that a robot does, the settings of a site, and room made before.
 #![tactic(auto)]
 
 mod durations;

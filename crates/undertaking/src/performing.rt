@@ -1,5 +1,5 @@
 // A site from its opening through a list of requests.
-ghost use Rattle.std.specs.Prelude.{◌≡◌, ◌+◌, ◌≤◌, ◌++◌, map, vec_len, vec_capacity};
+ghost use Rattle.std.specs.Prelude.{◌≡◌, map};
 ghost use Rattle.std.specs.List.{fold};
 ghost use Rattle.terms.specs.View.{settings_of};
 ghost use Rattle.gate.specs.Scene.{opened};

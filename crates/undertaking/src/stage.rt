@@ -4,7 +4,8 @@ ghost use Rattle.std.specs.Prelude.{◌≡◌, ◌≤◌, vec_len, vec_capacity}
 use crate::answer::Answer;
 use gate::Plot;
 
-// There is room for `most` requests and their answers.
+// There is room for `most` requests and their answers: a number of run time, so no Reserve, and the very number that was asked for,
+// where a list may have room for more.
 #[derive(Drop)]
 pub struct Stage<R: Drop> {
     pub(crate) plot: Plot,

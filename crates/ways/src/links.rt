@@ -1,4 +1,4 @@
-// The links of a column, one after the other.
+// Heights that are near, and the lowest neighbour of a column that has a label.
 ghost use Rattle.std.specs.Prelude.{◌≡◌, Decides};
 ghost use Rattle.ways.specs.Way.{Near};
 ghost use Rattle.ways.specs.Table.{label, lowest_beside, fits, is_label, near};
