@@ -37,9 +37,17 @@ module _ (m : Meaning) (plan : List Action) (targets : ℕ → ℕ) (lines : ℕ
   in_turn behind is = one_by_one ∙ ap (λ (o : Option Told). or_else o (first_of (missed_tests (makespan plan)))) (behind_found behind is)
 
 -- with the columns, the time and the targets as the code has them
-pub missed_in_turn : (m : Meaning) (plan : List Action) (lines : ℕ) {columns time : ℕ} {ts targets : List Target} → columns ≡ m.columns → time ≡ makespan plan → ts ≡ targets
+missed_in_turn : (m : Meaning) (plan : List Action) (lines : ℕ) {columns time : ℕ} {ts targets : List Target} → columns ≡ m.columns → time ≡ makespan plan → ts ≡ targets
     → first_of (missed_tests m plan (target_of targets) lines (makespan plan)) ≡ first_of (from_on (λ c. (missed plan (target_of ts) time c, told TargetMissed lines c) ∷ []) 0 columns)
 missed_in_turn m plan lines {columns} {time} {ts} {targets} width end same =
     ap (λ (u : ℕ). first_of (missed_tests m plan (target_of targets) lines u)) (sym end)
     ∙ ap (λ (us : List Target). first_of (missed_tests m plan (target_of us) lines time)) (sym same)
     ∙ ap (λ (n : ℕ). first_of (from_on (λ c. (missed plan (target_of ts) time c, told TargetMissed lines c) ∷ []) 0 n)) (sym width)
+
+-- both in turn, of what the code finds
+pub both_in_turn : (m : Meaning) (plan : List Action) (lines : ℕ) {columns time : ℕ} {ts targets : List Target} {behind : Option ℕ} (column : Option ℕ) → behind ≡ line_in (find (left_behind plan) plan) → columns ≡ m.columns → time ≡ makespan plan → ts ≡ targets
+    → first_of (from_on (λ c. (missed plan (target_of ts) time c, told TargetMissed lines c) ∷ []) 0 columns) ≡ option_map (told TargetMissed lines) column
+    → first_of (end_tests m plan (target_of targets) lines) ≡ or_else (option_map (λ l. told LeftBehind l 0) behind) (option_map (told TargetMissed lines) column)
+both_in_turn m plan lines {columns} {time} {ts} {targets} {behind} column is width end same found =
+    in_turn m plan (target_of targets) lines behind is
+    ∙ ap (λ (o : Option Told). or_else (option_map (λ l. told LeftBehind l 0) behind) o) (missed_in_turn m plan lines width end same ∙ found)

@@ -23,6 +23,7 @@ pub(crate) fn first_left_behind(actions: &[Action]) -> Option<u16>
 }
 
 // The target of a column, 0 where none is named.
+// By `find`: that targets rise is known of a sheet that was read, and not of any list of them.
 fn target_of(targets: &[Target], column: u16) -> u8
     ensures { result ≡ target_of targets.now column }
 {

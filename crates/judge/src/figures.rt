@@ -1,10 +1,11 @@
 // What a plan comes to.
-ghost use Rattle.std.specs.Prelude.{◌≡◌, ℕ, ◌≤◌, length, sum_by, count_by};
+ghost use Rattle.std.specs.Prelude.{◌≡◌, ℕ, ◌≤◌, sum_by, count_by};
 ghost use Rattle.plan.specs.Plan.{makespan, runs};
 ghost use Rattle.plan.specs.View.{plan_of};
 ghost use Rattle.judge.specs.Figures.{cost};
 
 use crate::above::running_at;
+use crate::actions::Actions;
 use plan::Action;
 
 // The largest end, 0 for no action.
@@ -19,11 +20,11 @@ pub(crate) fn latest_end(actions: &[Action]) -> u32
 }
 
 // The sum of the costs of all actions.
-pub(crate) fn costs(actions: &[Action]) -> u64
-    requires few { length actions.now ≤ 1500 }
-    ensures value { result ≡ sum_by cost (plan_of actions.now) }
+pub(crate) fn costs(actions: &Actions) -> u64
+    ensures { result ≡ sum_by cost (plan_of actions.now.list.items) }
 {
     actions
+        .list
         .iter()
         .map(|action| u64::from(action.span.cost()))
         .sum()

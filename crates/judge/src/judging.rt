@@ -1,5 +1,5 @@
 // Judging a sheet.
-ghost use Rattle.std.specs.Prelude.{◌≡◌, ◌≤◌, length, is_ok, vec_len, Decides};
+ghost use Rattle.std.specs.Prelude.{◌≡◌, length, is_ok, Decides};
 ghost use Rattle.terms.specs.Refusals.{Answers, Settles, first_of, from_on, refusal_in};
 ghost use Rattle.terms.specs.View.{settings_of};
 ghost use Rattle.plan.specs.Rules.{written_plan, target_of};
@@ -10,6 +10,7 @@ ghost use Rattle.judge.specs.Judging.{end_tests, judging_refusal, tests_at};
 ghost use Rattle.judge.specs.Reasons.{judging_reasons};
 ghost use Rattle.judge.specs.Verdict.{Accepts, Keeps};
 
+use crate::actions::Actions;
 use crate::end::{first_left_behind, first_missed};
 use crate::figures::{costs, latest_end, most_at_once};
 use crate::room::MOST_ACTIONS;
@@ -21,21 +22,21 @@ use sheet::{Sheet, Target, read_sheet};
 use terms::{Refusal, Reserve, Rule, Settings};
 
 // The actions that the lines of a sheet stand for, or the first rule that a line breaks.
-// Ground and settings come apart, as `judge` is given them: a struct of both would be made for two calls.
+// Ground and settings come apart, as the public `judge` is given them.
 fn judge_lines<G: Ground>(
     ground: &G,
     settings: &Settings,
     sheet: &Sheet,
     room: Reserve<Action, MOST_ACTIONS>,
-) -> Result<Vec<Action>, Refusal>
-    ensures { Answers (first_of (from_on (tests_at (G.Ground.meaning ground.now) (settings_of settings.now) sheet.now.acts.items) 0 (length sheet.now.acts.items))) (λ v. (plan_of v.items ≡ written_plan sheet.now.acts.items) × (vec_len v ≤ 1500)) result }
+) -> Result<Actions, Refusal>
+    ensures { Answers (first_of (from_on (tests_at (G.Ground.meaning ground.now) (settings_of settings.now) sheet.now.acts.items) 0 (length sheet.now.acts.items))) (λ a. plan_of a.list.items ≡ written_plan sheet.now.acts.items) result }
 {
-    let mut actions = room.into_vec();
+    let mut list = room.into_vec();
     for line in &sheet.acts {
-        let action = judge_line(ground, settings, actions.as_slice(), line)?;
-        actions.push_reserved(action);
+        let action = judge_line(ground, settings, list.as_slice(), line)?;
+        list.push_reserved(action);
     }
-    Ok(actions)
+    Ok(Actions { list })
 }
 
 // Refuses a plan by the first rule that it breaks at the end of its sheet, if it breaks one.
@@ -53,17 +54,16 @@ fn judge_end<G: Ground>(ground: &G, actions: &[Action], sheet: &Sheet) -> Result
 }
 
 // An accepted plan, with its figures.
-fn accept(actions: Vec<Action>, targets: Vec<Target>) -> Accepted
-    requires few { vec_len actions ≤ 1500 }
-    ensures plan { (result.plan ≡ plan_of actions.items) × (result.targets ≡ targets.items) }
+fn accept(actions: Actions, targets: Vec<Target>) -> Accepted
+    ensures plan { (result.plan ≡ plan_of actions.list.items) × (result.targets ≡ targets.items) }
     ensures figures { Figures result.plan result.makespan result.costs result.most }
 {
-    let plan = actions.as_slice();
+    let plan = actions.list.as_slice();
     let makespan = latest_end(plan);
-    let costs = costs(plan);
+    let costs = costs(&actions);
     let most = most_at_once(plan);
     Accepted {
-        actions,
+        actions: actions.list,
         targets,
         makespan,
         costs,
@@ -85,6 +85,6 @@ pub fn judge<G: Ground>(
     let Room { reading, actions } = room;
     let read = read_sheet(ground, settings, sheet, reading)?;
     let actions = judge_lines(ground, settings, &read, actions)?;
-    judge_end(ground, actions.as_slice(), &read)?;
+    judge_end(ground, actions.list.as_slice(), &read)?;
     Ok(accept(actions, read.targets))
 }

@@ -145,6 +145,7 @@ impl Placed<'_> {
 }
 
 // The action that a line stands for below the actions above it, or the first rule that it breaks.
+// Ground and settings come apart, as the public `judge` is given them.
 pub(crate) fn judge_line<G: Ground>(
     ground: &G,
     settings: &Settings,

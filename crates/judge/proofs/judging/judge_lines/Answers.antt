@@ -26,11 +26,11 @@ pub loop-line-init : goal.loop-line-init
 loop-line-init g c =
     let m = g.G.Ground.meaning c.args.ground.now in
     let acts = c.deref-line-items.result.now in
-    let none : plan_of (vec_items c.into_vec-actions.result) ≡ [] =
-    ap plan_of (nil_from_length (vec_items c.into_vec-actions.result) (sym c.into_vec-actions.result.ok.0 ∙ c.into_vec-actions.ensures.none)) in (
+    let none : plan_of (vec_items c.into_vec-list.result) ≡ [] =
+    ap plan_of (nil_from_length (vec_items c.into_vec-list.result) (sym c.into_vec-list.result.ok.0 ∙ c.into_vec-list.ensures.none)) in (
       none,
-      c.into_vec-actions.ensures.none,
-      c.into_vec-actions.ensures.room,
+      c.into_vec-list.ensures.none,
+      c.into_vec-list.ensures.room,
       subst (Settled m) (sym none) (settled_none m),
       ap (λ k. first_of (from_on (tests_at m (settings_of c.args.settings.now) acts) 0 k)) (sub-zero (length acts)),
     )
@@ -63,7 +63,7 @@ loop-line-preserved g c =
     let told = c.in_ok-action.ensures (subst (Settled m) (sym same) inv.3) in
     let none = sym (line_refused m s acts i above so_far) ∙ told.0 in
     let more : plan_of (vec_items c.push_reserved.new.self) ≡ above ++ (a ∷ []) =
-    ap plan_of c.push_reserved.ensures.items ∙ map_push action_of (vec_items c.loop-line.actions) c.in_ok-action.action ∙ ap (λ (xs : List Action). xs ++ (a ∷ [])) (sym same) in (
+    ap plan_of c.push_reserved.ensures.items ∙ map_push action_of (vec_items c.loop-line.list) c.in_ok-action.action ∙ ap (λ (xs : List Action). xs ++ (a ∷ [])) (sym same) in (
       more ∙ plan_more m s acts i above so_far a c.loop-line-test.true told.1,
       c.push_reserved.ensures.len ∙ ap (λ n. n + 1) inv.1,
       omega (arith, c.push_reserved.ensures.capacity, inv.2),
@@ -80,5 +80,5 @@ returns g c =
     let i = c.loop-line.line-index in
     let inv = c.loop-line.invariant in (
       whole m s same ∙ sym inv.4 ∙ none_left (tests_at m s acts) i (length acts) (omega arith),
-      (inv.0 ∙ plan_all acts i c.loop-line-test.false ∙ ap written_plan same, omega (arith, c.args.sheet.now.few_acts)),
+      inv.0 ∙ plan_all acts i c.loop-line-test.false ∙ ap written_plan same,
     )
