@@ -35,6 +35,7 @@ impl Model for Page {
     ghost invariant = { λ page. 807 ≤ vec_capacity page.text };
 }
 
+// Each asks for as much room as it writes: how much is left, no type says.
 impl Page {
     // A page with nothing on it.
     pub(crate) fn new(room: Reserve<u8, MOST_BYTES>) -> Page
@@ -50,11 +51,7 @@ impl Page {
         requires { length self.old + length bytes.now ≤ 807 }
         ensures { self.new ≡ self.old ++ bytes.now }
     {
-        // Pushed where there is room already, so that no heap is asked for.
-        let text = &mut self.text;
-        for b in bytes {
-            text.push_reserved(*b);
-        }
+        self.text.extend_from_slice(bytes).unwrap();
     }
 
     // Adds a word and three numbers, six wide each, and a newline.
