@@ -5,6 +5,7 @@ ghost use Rattle.draw.specs.Rows.{text as drawing};
 ghost use Rattle.job.specs.Replies.{row, told_row};
 ghost use Rattle.job.specs.Text.{cells, wide};
 
+use crate::heights::Heights;
 use draw::{draw, justified};
 use std::marker::Model;
 use terms::{Refusal, Reserve};
@@ -77,12 +78,12 @@ impl Page {
 
     // Adds the drawing of heights.
     #[tactic(auto, using(draw::proofs::Texts::length_text))]
-    pub(crate) fn put_drawing(&mut self, heights: &[u8])
-        requires { (length heights.now ≤ 256) × (length self.old + 784 ≤ 807) }
-        ensures { self.new ≡ self.old ++ drawing heights.now }
+    pub(crate) fn put_drawing(&mut self, heights: &Heights)
+        requires { length self.old + 784 ≤ 807 }
+        ensures { self.new ≡ self.old ++ drawing heights.now.values.items }
     {
         let mut buffer = [0; 784];
-        if let Ok(size) = draw(heights, &mut buffer) {
+        if let Ok(size) = draw(&heights.values, &mut buffer) {
             self.put(&buffer[..size]);
         }
     }

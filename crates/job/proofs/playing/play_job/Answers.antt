@@ -5,7 +5,8 @@ use Rattle.terms.specs.Durations.{SiteSettings}
 use Rattle.terms.specs.View.{settings_of}
 use Rattle.ground.specs.Meaning.{Meaning}
 use Rattle.gate.specs.Column.{robot}
-use Rattle.gate.specs.Scene.{height_at, opened}
+use Rattle.gate.specs.Scene.{Scene, height_at, opened}
+use Rattle.plan.specs.Plan.{Action}
 use Rattle.play.specs.Play.{Fresh, play_on}
 use Rattle.play.proofs.Standing.{plays_stand}
 use Rattle.ground.specs.View.{square_of}
@@ -39,6 +40,12 @@ told_first : (o : Option Told) (rs : List Reply) → rs ≡ by_refusal o ∷ [] 
 told_first None rs e = ap first_refusal e
 told_first (Some t) rs e = ap first_refusal e
 
+-- so the play's refusal is what the one answer tells
+told_of_play : (plan : List Action) (site : Scene) (t : Option Told) (answers read : List (Result (Option Order) Refusal)) (ds : List Deed)
+    → ds ≡ Deed.plays plan ∷ [] → t ≡ first_refusal (map reply_of answers) → answers ≡ read → map reply_of read ≡ replies_to site ds → t ≡ (play_on plan site).answer
+told_of_play plan site t answers read ds one told same answered =
+    told ∙ ap (λ (l : List (Result (Option Order) Refusal)). first_refusal (map reply_of l)) same ∙ told_first (play_on plan site).answer _ (answered ∙ ap (replies_to site) one)
+
 pub read_heights-requires : goal.read_heights-requires
 read_heights-requires c =
     let ground = c.args.judged.job.ground in
@@ -51,17 +58,13 @@ returns c =
     let plan = c.args.judged.plan.plan in
     let m = square_of c.args.judged.job.ground in
     let s = settings_of c.args.judged.job.settings in
-    let ground = c.args.judged.job.ground in
     let one = one_deed (requests_of stage) (requests_of c.add.new.self) (Play c.args.judged.plan) (room_of stage) (is_ok c.add.result) c.args.room.no_deeds c.args.room.one_fits c.add.ensures.taken c.add.ensures.requests in
-    let told =
-    c.stopped.ensures ∙ ap (λ (l : List (Result (Option Order) Refusal)). first_refusal (map reply_of l)) c.deref.ensures.value
-    ∙ told_first (play_on plan site).answer _ (c.perform-site.ensures.answered ∙ ap (replies_to site) one) in
+    let told = told_of_play plan site _ _ _ _ one c.stopped.ensures c.deref.ensures.value c.perform-site.ensures.answered in
     record {
       answer = sym (ap refusal_in c.in_ok-stopped.was) ∙ told;
       comes = λ targets rules. c.perform-site.ensures.plays [] (Deed.plays plan ∷ []) (sym one) (fresh m s) plan targets rules;
-      few = omega (arith, mul-le-mul ground.x_high ground.y_high, c.columns-columns.ensures, c.read_heights.ensures.few);
       heights =
-          c.read_heights.ensures.read
+          c.read_heights.ensures
           ∙ ap (λ (k : ℕ). map (height_at (vec_items c.perform-site.result.site.columns)) (range_with_len 0 k)) c.columns-columns.ensures
           ∙ ap (heights m.columns) (c.perform-site.ensures.is_run ∙ ap (runs site) one);
     }
@@ -72,13 +75,10 @@ returns-in_err-stopped c =
     let site = site_of c.args.judged.job in
     let plan = c.args.judged.plan.plan in
     let one = one_deed (requests_of stage) (requests_of c.add.new.self) (Play c.args.judged.plan) (room_of stage) (is_ok c.add.result) c.args.room.no_deeds c.args.room.one_fits c.add.ensures.taken c.add.ensures.requests in
-    let told =
-    c.stopped.ensures ∙ ap (λ (l : List (Result (Option Order) Refusal)). first_refusal (map reply_of l)) c.deref.ensures.value
-    ∙ told_first (play_on plan site).answer _ (c.perform-site.ensures.answered ∙ ap (replies_to site) one) in
+    let told = told_of_play plan site _ _ _ _ one c.stopped.ensures c.deref.ensures.value c.perform-site.ensures.answered in
     let same : refusal_in c.from_residual.result ≡ refusal_in c.stopped.result = search rules in
     record {
       answer = same ∙ told;
       comes = λ targets rules. c.perform-site.ensures.plays [] (Deed.plays plan ∷ []) (sym one) (fresh (square_of c.args.judged.job.ground) (settings_of c.args.judged.job.settings)) plan targets rules;
-      few = search rules;
       heights = search rules;
     }
