@@ -1,4 +1,4 @@
-use Rattle.std.proofs.Common.{◌≡◌, ℕ, Bool, true, cond, ltb, List, [], ◌∷◌, ◌++◌, map, length, Some, None, is_ok, vec_items, Option, Result, sym, ap, ◌∙◌, mul-le-mul, arith, rules}
+use Rattle.std.proofs.Common.{◌≡◌, ℕ, Bool, true, cond, ltb, List, [], ◌∷◌, ◌++◌, map, length, Some, None, vec_items, Option, Result, sym, ap, ◌∙◌, mul-le-mul, arith, rules}
 use Rattle.std.specs.List.{range_with_len}
 use Rattle.terms.specs.Refusals.{Told, refusal_in}
 use Rattle.terms.specs.Durations.{SiteSettings}
@@ -13,10 +13,8 @@ use Rattle.ground.specs.View.{square_of}
 use Rattle.gate.specs.declared.order.Order.{Order}
 use Rattle.terms.specs.declared.refusal.Refusal.{Refusal}
 use Rattle.undertaking.specs.Runs.{Reply, by_refusal, reply_of}
-use Rattle.undertaking.specs.View.{requests_of, room_of}
 use Rattle.service.specs.Deeds.{Deed, replies_to, runs}
 use Rattle.service.specs.declared.deed.Deed.{Deed as Given}
-use Rattle.service.specs.declared.deed.Deed.TheVariants.{Play}
 use Rattle.service.specs.View.{deed_of}
 use Rattle.job.specs.Replies.{heights}
 use Rattle.job.specs.View.{first_refusal, site_of}
@@ -53,12 +51,11 @@ read_heights-requires c =
 
 pub returns : goal.returns
 returns c =
-    let stage = c.args.room.stage in
     let site = site_of c.args.judged.job in
     let plan = c.args.judged.plan.plan in
     let m = square_of c.args.judged.job.ground in
     let s = settings_of c.args.judged.job.settings in
-    let one = one_deed (requests_of stage) (requests_of c.add.new.self) (Play c.args.judged.plan) (room_of stage) (is_ok c.add.result) c.args.room.no_deeds c.args.room.one_fits c.add.ensures.taken c.add.ensures.requests in
+    let one = one_deed _ _ _ _ _ c.args.room.no_deeds c.args.room.one_fits c.add.ensures.taken c.add.ensures.requests in
     let told = told_of_play plan site _ _ _ _ one c.stopped.ensures c.deref.ensures.value c.perform-site.ensures.answered in
     record {
       answer = sym (ap refusal_in c.in_ok-stopped.was) ∙ told;
@@ -71,10 +68,9 @@ returns c =
 
 pub returns-in_err-stopped : goal.returns-in_err-stopped
 returns-in_err-stopped c =
-    let stage = c.args.room.stage in
     let site = site_of c.args.judged.job in
     let plan = c.args.judged.plan.plan in
-    let one = one_deed (requests_of stage) (requests_of c.add.new.self) (Play c.args.judged.plan) (room_of stage) (is_ok c.add.result) c.args.room.no_deeds c.args.room.one_fits c.add.ensures.taken c.add.ensures.requests in
+    let one = one_deed _ _ _ _ _ c.args.room.no_deeds c.args.room.one_fits c.add.ensures.taken c.add.ensures.requests in
     let told = told_of_play plan site _ _ _ _ one c.stopped.ensures c.deref.ensures.value c.perform-site.ensures.answered in
     let same : refusal_in c.from_residual.result ≡ refusal_in c.stopped.result = search rules in
     record {
