@@ -8,6 +8,6 @@ use Rattle.job.specs.declared.reply.Stop.{Stop}
 use Rattle.job.specs.declared.reply.Stop.TheVariants.{Bad, Held}
 
 abbrev pub written : Result Played Stop → List ℕ
-written (Ok p) = row (codes "OK  ") p.makespan p.costs p.most ++ text (vec_items p.heights)
+written (Ok p) = row (codes "OK  ") p.makespan p.costs p.most ++ text (vec_items p.heights.values)
 written (Err (Bad f)) = told_row (codes "BAD ") (told_of f)
 written (Err (Held f)) = told_row (codes "HELD") (told_of f)

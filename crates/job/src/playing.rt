@@ -1,5 +1,5 @@
 // Playing the plan of a job on its site.
-ghost use Rattle.std.specs.Prelude.{◌≡◌, ℕ, ◌≤◌, map, length, IfOk, vec_len};
+ghost use Rattle.std.specs.Prelude.{◌≡◌, ℕ, ◌≤◌, map, length, IfOk};
 ghost use Rattle.std.specs.List.{range_with_len};
 ghost use Rattle.terms.specs.Refusals.{refusal_in};
 ghost use Rattle.ground.specs.View.{square_of};
@@ -15,6 +15,7 @@ ghost use Rattle.service.specs.View.{deeds_of};
 ghost use Rattle.job.specs.Replies.{heights as drawn};
 ghost use Rattle.job.specs.View.{first_refusal, site_of};
 
+use crate::heights::Heights;
 use crate::opened::{Job, Judged};
 use gate::Site;
 use ground::Ground;
@@ -46,17 +47,16 @@ impl PlayRoom {
 }
 
 // The heights of so many columns of a site, in order.
-fn read_heights<G: Ground>(site: &Site<G>, columns: u16, room: Reserve<u8, MOST_COLUMNS>) -> Vec<u8>
+fn read_heights<G: Ground>(site: &Site<G>, columns: u16, room: Reserve<u8, MOST_COLUMNS>) -> Heights
     requires { columns ≤ 256 }
-    ensures few { vec_len result ≡ columns }
-    ensures read { result.items ≡ map (height_at (scene_of site.now).columns) (range_with_len 0 columns) }
+    ensures { result.values.items ≡ map (height_at (scene_of site.now).columns) (range_with_len 0 columns) }
 {
-    let mut heights = room.into_vec();
+    let mut values = room.into_vec();
     // By number: a site tells of its columns one by one, and lends no list of them.
     for column in 0..columns {
-        heights.push_reserved(site.look(column).height);
+        values.push_reserved(site.look(column).height);
     }
-    heights
+    Heights { values }
 }
 
 // Why the first request was refused, if it was.
@@ -70,11 +70,10 @@ fn stopped(answers: &[Answer]) -> Result<(), Refusal>
 }
 
 // Plays the plan of a job: why it was stopped, or the heights then.
-pub(crate) fn play_job(judged: Judged, room: PlayRoom) -> Result<Vec<u8>, Refusal>
+pub(crate) fn play_job(judged: Judged, room: PlayRoom) -> Result<Heights, Refusal>
     ensures answer { refusal_in result ≡ (play_on judged.plan.plan (site_of judged.job)).answer }
     ensures comes { (targets : ℕ → ℕ) → Rules (square_of judged.job.ground) (settings_of judged.job.settings) judged.plan.plan targets → Comes (square_of judged.job.ground) (settings_of judged.job.settings) judged.plan.plan targets (play_on judged.plan.plan (site_of judged.job)) }
-    ensures few { IfOk result (λ hs. vec_len hs ≤ 256) }
-    ensures heights { IfOk result (λ hs. hs.items ≡ drawn (square_of judged.job.ground).columns (play_on judged.plan.plan (site_of judged.job)).site) }
+    ensures heights { IfOk result (λ hs. hs.values.items ≡ drawn (square_of judged.job.ground).columns (play_on judged.plan.plan (site_of judged.job)).site) }
 {
     let Judged { job, plan } = judged;
     let Job { ground, settings } = job;

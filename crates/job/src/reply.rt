@@ -1,10 +1,11 @@
 // The whole answer of the program.
-ghost use Rattle.std.specs.Prelude.{◌≡◌, ◌≤◌, IfOk, vec_len};
+ghost use Rattle.std.specs.Prelude.{◌≡◌};
 ghost use Rattle.job.specs.Replies.{answered};
 ghost use Rattle.job.specs.Written.{written};
 ghost use Rattle.job.specs.Words.{Verdict};
 
 use crate::Desk;
+use crate::heights::Heights;
 use crate::opened::judge_job;
 use crate::playing::{PlayRoom, play_job};
 use crate::text::Page;
@@ -17,11 +18,11 @@ struct Played {
     makespan: u64,
     costs: u64,
     most: u64,
-    heights: Vec<u8>,
+    heights: Heights,
 }
 
 // Why there are no figures: the first fault of a job, or why its plan was held in play.
-#[derive(Clone, Copy)]
+#[derive(Clone, Copy, PartialEq, Eq, Debug)]
 enum Stop {
     Bad(Refusal),
     Held(Refusal),
@@ -31,7 +32,6 @@ enum Stop {
 fn play_out(input: &[u8], judging: Room, playing: PlayRoom) -> Result<Played, Stop>
     ensures value { written result ≡ answered input.now }
     ensures words { Verdict input.now (written result) }
-    ensures few { IfOk result (λ p. vec_len p.heights ≤ 256) }
 {
     let judged = judge_job(input, judging).map_err(Stop::Bad)?;
     let makespan = u64::from(judged.plan.makespan());

@@ -5,6 +5,7 @@ ghost use Rattle.draw.specs.Rows.{text as drawing};
 ghost use Rattle.job.specs.Replies.{row, told_row};
 ghost use Rattle.job.specs.Text.{cells, wide};
 
+use crate::heights::Heights;
 use draw::{draw, justified};
 use std::marker::Model;
 use terms::{Refusal, Reserve};
@@ -35,6 +36,7 @@ impl Model for Page {
     ghost invariant = { λ page. 807 ≤ vec_capacity page.text };
 }
 
+// Each asks for as much room as it writes: how much is left, no type says.
 impl Page {
     // A page with nothing on it.
     pub(crate) fn new(room: Reserve<u8, MOST_BYTES>) -> Page
@@ -50,11 +52,7 @@ impl Page {
         requires { length self.old + length bytes.now ≤ 807 }
         ensures { self.new ≡ self.old ++ bytes.now }
     {
-        // Pushed where there is room already, so that no heap is asked for.
-        let text = &mut self.text;
-        for b in bytes {
-            text.push_reserved(*b);
-        }
+        self.text.extend_from_slice(bytes).unwrap();
     }
 
     // Adds a word and three numbers, six wide each, and a newline.
@@ -80,12 +78,12 @@ impl Page {
 
     // Adds the drawing of heights.
     #[tactic(auto, using(draw::proofs::Texts::length_text))]
-    pub(crate) fn put_drawing(&mut self, heights: &[u8])
-        requires { (length heights.now ≤ 256) × (length self.old + 784 ≤ 807) }
-        ensures { self.new ≡ self.old ++ drawing heights.now }
+    pub(crate) fn put_drawing(&mut self, heights: &Heights)
+        requires { length self.old + 784 ≤ 807 }
+        ensures { self.new ≡ self.old ++ drawing heights.now.values.items }
     {
         let mut buffer = [0; 784];
-        if let Ok(size) = draw(heights, &mut buffer) {
+        if let Ok(size) = draw(&heights.values, &mut buffer) {
             self.put(&buffer[..size]);
         }
     }

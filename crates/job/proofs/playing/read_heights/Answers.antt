@@ -11,7 +11,7 @@ more f old new i h e n q =
 
 pub loop-column-preserved : goal.loop-column-preserved
 loop-column-preserved g c = (
-  more (height_at (vec_items c.args.site.now.columns)) (vec_items c.loop-column.heights) (vec_items c.push_reserved.new.self) c.loop-column.column c.look.result.height
+  more (height_at (vec_items c.args.site.now.columns)) (vec_items c.loop-column.values) (vec_items c.push_reserved.new.self) c.loop-column.column c.look.result.height
       c.loop-column.invariant.0 c.push_reserved.ensures.items (ap (λ (x : Column). x.height) c.look.ensures),
   omega arith,
   c.push_reserved.ensures.capacity ∙ c.loop-column.invariant.2,

@@ -135,7 +135,7 @@ returns c =
     let j = judged c.args.input.now c.judge_job.result c.in_ok-judged.judged c.judge_job.ensures (search rules) in
     let came : c.play_job.result ≡ Ok c.in_ok-heights.heights = search rules in
     let all =
-    ended c.args.input.now c.in_ok-judged.judged j.1 c.from-makespan.result c.costs-costs.result c.most-most.result (vec_items c.in_ok-heights.heights) j.0
+    ended c.args.input.now c.in_ok-judged.judged j.1 c.from-makespan.result c.costs-costs.result c.most-most.result (vec_items c.in_ok-heights.heights.values) j.0
     (rw came at c.play_job.ensures.answer) c.play_job.ensures.comes (c.from-makespan.ensures ∙ c.makespan.ensures) c.costs-costs.ensures c.most-most.ensures
     (rw came at c.play_job.ensures.heights) in
-    record { value = all.0; words = all.1; few = rw came at c.play_job.ensures.few }
+    record { value = all.0; words = all.1 }
