@@ -1,62 +1,49 @@
-// Drawing heights into a buffer.
+// Numbers in so many places, and the drawing of heights into a buffer.
 #![tactic(auto)]
 
-ghost use Rattle.std.specs.Prelude.{◌≡◌, ℕ, ◌+◌, ◌*◌, ◌/◌, ◌<◌, ◌≤◌, ◌++◌, length, drop, if◌then◌else◌, MatchOption};
+ghost use Rattle.std.specs.Prelude.{◌≡◌, ◌+◌, ◌*◌, ◌/◌, ◌<◌, ◌≤◌, ◌++◌, length, drop, IfOk, IfErr};
 ghost use Rattle.terms.specs.Refusals.{Answers};
-ghost use Rattle.draw.specs.Rows.{buffered, cell, draw_refusal, row_text, text};
+ghost use Rattle.terms.specs.declared.refusal.Rule.TheVariants.{BufferShort};
+ghost use Rattle.draw.specs.Rows.{buffered, draw_refusal, row_text, text};
+ghost use Rattle.draw.specs.Places.{justified};
 
 use terms::{Refusal, Rule};
 
-// The digit of a number below ten.
-fn digit(n: u8) -> u8
-    requires { n < 10 }
-    ensures { result ≡ 48 + n }
+// A number in decimal, justified to the right in N places: of a longer one the last N digits.
+pub fn justified<const N: usize>(n: u64) -> [u8; N]
+    ensures { result ≡ justified N n }
 {
-    b'0' + n
-}
-
-// A digit, or a space where it is not shown.
-fn shown_if(shown: bool, n: u8) -> u8
-    requires { n < 10 }
-    ensures { result ≡ (if shown then 48 + n else 32) }
-{
-    if shown { digit(n) } else { b' ' }
-}
-
-// Writes a height into three bytes.
-fn write_cell(height: u8, out: &mut [u8])
-    requires { length out.old ≡ 3 }
-    ensures { out.new ≡ cell height }
-{
-    let hundreds = shown_if(height >= 100, height / 100);
-    let tens = shown_if(height >= 10, height / 10 % 10);
-    let ones = digit(height % 10);
-    out.copy_from_slice(&[hundreds, tens, ones]);
+    let mut buffer = itoa::Buffer::new();
+    let digits = buffer.format(n).as_bytes();
+    let shown = digits.len().min(N);
+    let mut places = [b' '; N];
+    let right = &mut places[..];
+    right[N - shown..].copy_from_slice(&digits[digits.len() - shown..]);
+    places
 }
 
 // Writes a row, and a newline after it, into its own stretch of the buffer.
 fn write_row(heights: &[u8], out: &mut [u8])
-    requires { (length out.old ≡ 3 * length heights.now + 1) × (length heights.now ≤ 16) }
+    requires { length out.old ≡ 3 * length heights.now + 1 }
     ensures { out.new ≡ row_text heights.now }
 {
+    // By number, as rows are: of what is written through `chunks_mut` a proof knows nothing.
     for (i, h) in heights.iter().enumerate() {
-        write_cell(*h, &mut out[3 * i..3 * i + 3]);
+        out[3 * i..3 * i + 3].copy_from_slice(&justified::<3>(u64::from(*h)));
     }
     out[3 * heights.len()] = b'\n';
 }
 
 // How long the drawing of so many heights is, where a buffer of a size holds it.
-fn drawn_size(heights: usize, size: usize) -> Option<usize>
-    ensures { MatchOption result (size < 3 * heights + (heights + 15) / 16) (λ n. (n ≡ 3 * heights + (heights + 15) / 16) × (n ≤ size)) }
+fn drawn_size(heights: usize, size: usize) -> Result<usize, Rule>
+    ensures fits { IfOk result (λ n. (n ≡ 3 * heights + (heights + 15) / 16) × (n ≤ size)) }
+    ensures short { IfErr result (λ rule. (rule ≡ BufferShort) × (size < 3 * heights + (heights + 15) / 16)) }
 {
-    if size / 3 < heights {
-        return None;
-    }
-    let rows = (heights + 15) / 16;
-    if size - 3 * heights < rows {
-        return None;
-    }
-    Some(3 * heights + rows)
+    heights
+        .checked_mul(3)
+        .and_then(|cells| cells.checked_add(heights.div_ceil(16)))
+        .filter(|drawn| *drawn <= size)
+        .ok_or(Rule::BufferShort)
 }
 
 // Draws heights, row by row, into the front of a buffer that holds the drawing.
@@ -64,22 +51,20 @@ fn write_rows(heights: &[u8], out: &mut [u8])
     requires { length (text heights.now) ≤ length out.old }
     ensures { out.new ≡ text heights.now ++ drop (length (text heights.now)) out.old }
 {
-    let mut at = 0;
-    for row in heights.chunks(16) {
-        let end = at + 3 * row.len() + 1;
-        write_row(row, &mut out[at..end]);
-        at = end;
+    // Each row in its place, 49 bytes on: what a `zip` with `chunks_mut` writes is not known to a proof.
+    for (i, row) in heights.chunks(16).enumerate() {
+        let at = 49 * i;
+        write_row(row, &mut out[at..at + 3 * row.len() + 1]);
     }
 }
 
 // Draws heights, sixteen to a row, into the front of a buffer, and says how many bytes that took.
+#[tactic(auto, using(crate::proofs::Texts::length_text))]
 pub fn draw(heights: &[u8], out: &mut [u8]) -> Result<usize, Refusal>
     ensures value { Answers (draw_refusal heights.now out.old) (λ n. n ≡ length (text heights.now)) result }
     ensures after { out.new ≡ buffered heights.now out.old result }
 {
-    let Some(size) = drawn_size(heights.len(), out.len()) else {
-        return Err(Refusal::plain(Rule::BufferShort));
-    };
+    let size = drawn_size(heights.len(), out.len())?;
     write_rows(heights, out);
     Ok(size)
 }
@@ -87,7 +72,6 @@ pub fn draw(heights: &[u8], out: &mut [u8]) -> Result<usize, Refusal>
 #[cfg(test)]
 mod tests {
     use super::*;
-    use std::test::Fail;
 
     #[test]
     fn rows_and_what_is_behind_them(rt: HostRuntime) {
@@ -98,13 +82,16 @@ mod tests {
     }
 
     #[test]
-    fn a_short_buffer_stays_as_it_is(rt: HostRuntime) -> Result<(), Fail> {
+    fn a_short_buffer_stays_as_it_is(rt: HostRuntime) {
         let mut out = [b'.'; 3];
-        match draw(&[1], &mut out) {
-            Ok(_) => return Err(Fail::new("drawn")),
-            Err(refusal) => assert_eq!(rt; refusal.rule.number(), 34),
-        }
+        let drawn = draw(&[1], &mut out).map_err(|refusal| refusal.rule.number());
+        assert_eq!(rt; drawn, Err(34));
         assert!(rt; &out == b"...");
-        Ok(())
+    }
+
+    #[test]
+    fn a_number_stands_to_the_right(rt: HostRuntime) {
+        assert_eq!(rt; justified::<6>(1234), *b"  1234");
+        assert_eq!(rt; justified::<3>(1234), *b"234");
     }
 }

@@ -4,6 +4,7 @@ use Rattle.std.proofs.lemmas.Bool.{false≢true, true≢false, both_ways, leb-tr
 use Rattle.std.proofs.lemmas.Bool.Decides.{Decides-and, Decides-not, Decides-ltb, Decides-eqb, Decides-like, nat_tests}
 use Rattle.terms.specs.Refusals.{Told}
 use Rattle.terms.proofs.First.{Decide, first_settles}
+use Rattle.terms.proofs.Tests.{decides_is, decides_isnt, decides_leb}
 use Rattle.ground.specs.Meaning.{Meaning, Lawful}
 use Rattle.ways.specs.Way.{Relief, NoWay}
 use Rattle.ways.specs.Table.{near, steps}
@@ -30,13 +31,6 @@ not_both_but true true p q = (λ _ h. false≢true (q.1 h.1), λ _. refl)
 not_both_but true false p q = (λ e. absurd (false≢true e), λ h. absurd (h (p.0 refl, q.0 refl)))
 not_both_but false b p q = (λ _ h. false≢true (p.1 h.0), λ _. refl)
 
-itself : (b : Bool) → Decides b (b ≡ true)
-itself b = (λ e. e, λ e. e)
-
-is_not : (b : Bool) → Decides (not b) (b ≡ false)
-is_not true = (λ e. absurd (false≢true e), λ e. absurd (true≢false e))
-is_not false = (λ _. refl, λ _. refl)
-
 stands_decides : (t : State) → Decides (stands t) ((block : Bool) × (t ≡ Standing block))
 stands_decides Free = (λ e. absurd (false≢true e), λ h. ap stands h.1)
 stands_decides (Standing b) = (λ _. (b, refl), λ _. refl)
@@ -46,9 +40,6 @@ held_decides : (t : State) → Decides (held t) (t ≡ Free → ⊥)
 held_decides Free = (λ e. absurd (false≢true e), λ h. absurd (h refl))
 held_decides (Standing b) = (λ _ e. true≢false (ap held e), λ _. refl)
 held_decides (Busy p n) = (λ _ e. true≢false (ap held e), λ _. refl)
-
-at_most_decides : (a b : ℕ) → Decides (leb a b) (a ≤ b)
-at_most_decides a b = (leb-true a b, le-leb a b)
 
 room_decides : (levels h : ℕ) → Decides (not (leb levels h)) (h < levels)
 room_decides levels h = grind (arith, nat_tests)
@@ -66,7 +57,7 @@ module _ (v : Scene) (law : Lawful v.meaning) (d : ℕ) where
 
   alone_decides : (c : ℕ) → Decides (stranded_by v.columns (steps v.meaning (tried v d)) c) (Alone c)
   alone_decides c =
-      Decides-and (robot (state_at v.columns c)) (not (is_some (steps v.meaning (tried v d) c))) (itself (robot (state_at v.columns c)))
+      Decides-and (robot (state_at v.columns c)) (not (is_some (steps v.meaning (tried v d) c))) (decides_is (robot (state_at v.columns c)))
       (no_way_decides v.meaning (tried v d) law c)
 
   strands_decides : Decides (is_some (lowest_stranded v.meaning v.columns (tried v d))) ((e : ℕ) × Stranded v d e)
@@ -100,10 +91,10 @@ module _ (v : Scene) (law : Lawful v.meaning) where
   no_stand c = Decides-not (stands (state_at v.columns c)) (stands_decides (state_at v.columns c))
 
   not_border : (c : ℕ) → Decides (not (v.meaning.border c)) (v.meaning.border c ≡ true → ⊥)
-  not_border c = Decides-not (v.meaning.border c) (itself (v.meaning.border c))
+  not_border c = Decides-not (v.meaning.border c) (decides_is (v.meaning.border c))
 
   no_link : (c d : ℕ) → Decides (not (v.meaning.linked c d) || v.meaning.border d) ((v.meaning.linked c d ≡ true) × (v.meaning.border d ≡ false) → ⊥)
-  no_link c d = not_both_but (v.meaning.linked c d) (v.meaning.border d) (itself (v.meaning.linked c d)) (is_not (v.meaning.border d))
+  no_link c d = not_both_but (v.meaning.linked c d) (v.meaning.border d) (decides_is (v.meaning.linked c d)) (decides_isnt (v.meaning.border d))
 
   -- the detail of a call that is refused for want of a way home
   detail : Call → ℕ
@@ -128,19 +119,19 @@ module _ (v : Scene) (law : Lawful v.meaning) where
   decide : (k : Call) → Decide (tests v.meaning v.settings v.columns (tried v) k) (reasons v k (detail k))
   unfolding detail
   decide (Enter c b) =
-      let full = at_most_decides v.settings.robots (robots v.meaning v.columns) in
+      let full = decides_leb v.settings.robots (robots v.meaning v.columns) in
       (off_decides c, refl, (not_border c, refl, (held_decides (state_at v.columns c), refl, (full, refl, tt))))
   decide (Move c d) =
-      let link = Decides-not (v.meaning.linked c d) (itself (v.meaning.linked c d)) in
+      let link = Decides-not (v.meaning.linked c d) (decides_is (v.meaning.linked c d)) in
       let far = Decides-not (near (height_at v.columns c) (height_at v.columns d)) (near_decides (height_at v.columns c) (height_at v.columns d)) in
       (both_on c d, refl, (no_stand c, refl, (link, refl, (held_decides (state_at v.columns d), refl, (far, refl, tt)))))
   decide (Lay c d) =
-      let load = Decides-not (carries (state_at v.columns c)) (itself (carries (state_at v.columns c))) in
+      let load = Decides-not (carries (state_at v.columns c)) (decides_is (carries (state_at v.columns c))) in
       let heights = not_both_but (eqb (height_at v.columns c) (height_at v.columns d)) (leb v.settings.levels (suc (height_at v.columns d)))
       (Decides-eqb (height_at v.columns c) (height_at v.columns d)) (room_decides v.settings.levels (suc (height_at v.columns d))) in
       (both_on c d, refl, (no_stand c, refl, (load, refl, (no_link c d, refl, (held_decides (state_at v.columns d), refl, (heights, refl, (strands_decides v law d, refl, tt)))))))
   decide (Lift c d) =
-      let load = itself (carries (state_at v.columns c)) in
+      let load = decides_is (carries (state_at v.columns c)) in
       let heights = Decides-not (eqb (height_at v.columns d) (suc (height_at v.columns c))) (Decides-eqb (height_at v.columns d) (suc (height_at v.columns c))) in
       (both_on c d, refl, (no_stand c, refl, (load, refl, (no_link c d, refl, (held_decides (state_at v.columns d), refl, (heights, refl, (strands_decides v law d, refl, tt)))))))
   decide (Leave c) = (off_decides c, refl, (no_stand c, refl, (not_border c, refl, tt)))
@@ -160,3 +151,6 @@ module _ (v : Scene) (law : Lawful v.meaning) where
   performed k o w e f =
       let P : Option Told → Type 0 = Decided v k in
       record { value = e; after = f ∙ ap (λ x. settle x (grant v k) v) e; words = subst P (sym e) (decided k); unaltered = λ t i. f ∙ ap (λ x. settle x (grant v k) v) i }
+
+  pub refused : (k : Call) (o : Option Told) (t : Told) → o ≡ Some t → Some t ≡ refusal v k → Performed v k o v
+  refused k o t e f = performed k o v (e ∙ f) (ap (λ x. settle x (grant v k) v) (sym e))

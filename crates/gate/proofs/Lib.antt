@@ -6,3 +6,5 @@ pub mod Marks
 pub mod Sums
 pub mod Picks
 pub mod Recalling
+pub mod Least
+pub mod Ticked

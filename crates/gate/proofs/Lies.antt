@@ -1,7 +1,7 @@
 -- The search is handed slices; the ground lies as their columns and marks say. Assumes nothing.
-use Rattle.std.proofs.Common.{◌≡◌, ℕ, ◌<◌, false, not, ◌||◌, eqb, List, map, length, set, is_some, Some, None, Option, sym, refl, ap, ◌∙◌, inl, inr, arith}
+use Rattle.std.proofs.Common.{◌≡◌, ℕ, ◌<◌, not, ◌||◌, eqb, List, map, length, set, Option, sym, ap, ◌∙◌, inl, inr, arith}
 use Rattle.std.proofs.lemmas.List.{get_or_past, get_or-map, length-map, get_or-set_same, get_or-set_other}
-use Rattle.std.proofs.lemmas.Bool.{cases_lt, cases_eq, eq-eqb, ne_eqb, true≢false}
+use Rattle.std.proofs.lemmas.Bool.{cases_lt, cases_eq, eq-eqb, ne_eqb}
 use Rattle.ground.specs.Meaning.{Meaning}
 use Rattle.ways.specs.Table.{first_below, steps}
 use Rattle.ways.specs.View.{heights_by, marked, relief_by}
@@ -29,13 +29,12 @@ set_marks marks d l c = elim (cases_eq c d) [
 pub lies_tried : (xs : Columns) (marks : List ℕ) (d : ℕ) → d < length marks → lying xs (marked (set marks d 1)) ≡ lying xs (λ c. eqb c d || marked marks c)
 lies_tried xs marks d l = ap (lying xs) (λ i c. set_marks marks d l c i)
 
--- the search for stranded robots, with the steps that were found
+-- the steps that a search found are those of the ground as it lies
+pub steps_same : (m : Meaning) (xs : Columns) (marks : List ℕ) (found : ℕ → Option ℕ) → ((c : ℕ) → found c ≡ steps m (relief_by (λ (x : Column). x.height) xs marks) c)
+    → found ≡ steps m (lying xs (marked marks))
+steps_same m xs marks found h = λ i c. (h c ∙ ap (λ r. steps m r c) (lies_as xs marks)) i
+
+-- so are the robots that it leaves stranded
 pub stranded_same : (m : Meaning) (xs : Columns) (marks : List ℕ) (found : ℕ → Option ℕ) → ((c : ℕ) → found c ≡ steps m (relief_by (λ (x : Column). x.height) xs marks) c)
     → first_below (stranded_by xs found) m.columns ≡ lowest_stranded m xs (lying xs (marked marks))
-stranded_same m xs marks found h =
-    ap (λ (f : ℕ → Option ℕ). first_below (stranded_by xs f) m.columns) (λ i c. h c i)
-    ∙ ap (lowest_stranded m xs) (lies_as xs marks)
-
-pub is_none : (o : Option ℕ) → is_some o ≡ false → o ≡ None
-is_none None e = refl
-is_none (Some n) e = absurd (true≢false e)
+stranded_same m xs marks found h = ap (λ (f : ℕ → Option ℕ). first_below (stranded_by xs f) m.columns) (steps_same m xs marks found h)

@@ -15,7 +15,7 @@ use Rattle.gate.specs.declared.order.Order.{Order}
 use Rattle.gate.specs.Column.{robot, runs}
 use Rattle.gate.specs.Scene.{Columns, Scene, height_at, state_at, relief}
 use Rattle.gate.specs.Words.{OnGround, Robot}
-use Rattle.gate.specs.Recall.{robot_steps, best_below, cost_of, toll, next_by, named, any_runs, recall, Running, Homeward, Does, RightlyNamed, Recalled}
+use Rattle.gate.specs.Recall.{robot_steps, best_below, cost_of, toll, next_by, named, any_runs, recalled, recall, Running, Homeward, Does, RightlyNamed, Recalled}
 use Rattle.gate.proofs.Below.{any_decides}
 use Rattle.gate.proofs.Sums.{sum_same}
 use Rattle.gate.proofs.Picks.{Chosen, chosen}
@@ -37,6 +37,19 @@ module _ (m : Meaning) (xs : Columns) (found_steps : ℕ → Option ℕ) (c : �
   pub moves_by : (n : ℕ) → (n ≡ 0 → ⊥) → (o : Option ℕ) → o ≡ nearer m (height_at xs) found_steps c → Moves (unwrap_or o 0) ≡ next_by m xs found_steps c n
   moves_by zero h o e = absurd (h refl)
   moves_by (suc n) h o e = ap (λ x. Moves (unwrap_or x 0)) e
+
+-- nothing runs: what is named by the steps that were found is the answer
+pub quiet : (v : Scene) (found : ℕ → Option ℕ) → found ≡ steps v.meaning (relief v) → any_runs v.meaning v.columns ≡ false → (r : Result Order Told)
+    → r ≡ named v.meaning v.columns found (best_below (robot_steps v.columns found) v.meaning.columns) → r ≡ recall v
+quiet v found same q r e =
+    let best = best_below (robot_steps v.columns found) v.meaning.columns in
+    e ∙ sym (cond-false (any_runs v.meaning v.columns) (Err (told ActionRuns 0 0)) (named v.meaning v.columns found best) q) ∙ ap (λ (f : ℕ → Option ℕ). recalled v.meaning v.columns f) same
+
+-- something runs
+pub busy : (v : Scene) → any_runs v.meaning v.columns ≡ true → (r : Result Order Told) → r ≡ Err (told ActionRuns 0 0) → r ≡ recall v
+busy v q r e =
+    let f = steps v.meaning (relief v) in
+    e ∙ sym (cond-true (any_runs v.meaning v.columns) (Err (told ActionRuns 0 0)) (named v.meaning v.columns f (best_below (robot_steps v.columns f) v.meaning.columns)) q)
 
 module _ (v : Scene) (law : Lawful v.meaning) (h : Homeward v) where
   fewest : ℕ → ℕ

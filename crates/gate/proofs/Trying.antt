@@ -1,8 +1,7 @@
 -- A lay or a lift is refused by one of its first tests, or by the trial, or granted. Assumes nothing.
 use Rattle.std.proofs.Common.{◌≡◌, ℕ, ◌<◌, Bool, true, false, cond, ◌||◌, ltb, List, [], ◌∷◌, ◌++◌, Some, None, Option, sym, refl, ap, ◌∙◌}
 use Rattle.terms.specs.Durations.{SiteSettings}
-use Rattle.terms.specs.Refusals.{Told, told, first_of, or_else}
-use Rattle.terms.specs.declared.refusal.Rule.TheVariants.{NoWayHome}
+use Rattle.terms.specs.Refusals.{Told, first_of, or_else}
 use Rattle.terms.proofs.First.{first_append}
 use Rattle.std.proofs.lemmas.Bool.{ltb-true, not-false, or_parts}
 use Rattle.ground.specs.Meaning.{Meaning}
@@ -17,11 +16,8 @@ module _ (ts : List Test) (o : Option ℕ) where
   pub by_tests : {t : Told} → Some t ≡ first_of ts → Some t ≡ first_of (ts ++ strands o ∷ [])
   by_tests {t} h = sym (after_tests (Some t) h)
 
-  pub by_trial : {x : ℕ} → None ≡ first_of ts → Some x ≡ o → Some (told NoWayHome 0 x) ≡ first_of (ts ++ strands o ∷ [])
-  by_trial h e = sym (after_tests None h ∙ ap (λ x. first_of (strands x ∷ [])) (sym e))
-
-  pub by_none : None ≡ first_of ts → None ≡ o → None ≡ first_of (ts ++ strands o ∷ [])
-  by_none h e = sym (after_tests None h ∙ ap (λ x. first_of (strands x ∷ [])) (sym e))
+  pub by_trial : (e : Option Told) → None ≡ first_of ts → e ≡ first_of (strands o ∷ []) → e ≡ first_of (ts ++ strands o ∷ [])
+  by_trial e h i = i ∙ sym (after_tests None h)
 
 -- the first test fails
 abbrev FirstFails : List Test → Type 0

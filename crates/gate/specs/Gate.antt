@@ -1,5 +1,5 @@
 -- The gate: what each call asks, in rising order of refusals, and what a grant does. Assumes nothing.
-use Rattle.std.specs.Prelude.{ℕ, suc, Bool, not, ◌&&◌, ◌||◌, List, [], ◌∷◌, ◌++◌, is_some, Some, None, Option, ◌==◌, nat_le, nat_lt, slice_set}
+use Rattle.std.specs.Prelude.{ℕ, suc, Bool, true, false, not, ◌&&◌, ◌||◌, List, [], ◌∷◌, ◌++◌, is_some, Some, None, Option, ◌==◌, nat_le, nat_lt, slice_set}
 use Rattle.std.specs.Option.{unwrap_or}
 use Rattle.terms.specs.Durations.{SiteSettings, duration_of}
 use Rattle.terms.specs.Refusals.{Told, told, first_of}
@@ -11,10 +11,11 @@ use Rattle.ways.specs.Way.{Relief}
 use Rattle.ways.specs.Table.{near, first_below, steps}
 use Rattle.gate.specs.declared.call.Call.{Call}
 use Rattle.gate.specs.declared.call.Call.TheVariants.{Enter, Move, Lay, Lift, Leave, Tick, Recall}
+use Rattle.gate.specs.declared.column.Part.{Part}
 use Rattle.gate.specs.declared.column.Part.TheVariants.{Entering, Leaving, Departing, Laying, Lifting}
 use Rattle.gate.specs.declared.column.State.TheVariants.{Busy}
 use Rattle.gate.specs.Column.{held, stands, robot, carries}
-use Rattle.gate.specs.Scene.{Columns, Scene, height_at, state_at, put, begin, tick_all, renewed_marks, tried, robots}
+use Rattle.gate.specs.Scene.{Columns, Scene, height_at, state_at, with_columns, with_marks, put, begin, tick_all, renewed_marks, tried, robots}
 
 abbrev pub Test : Type 0
 Test = Bool × Told
@@ -36,24 +37,28 @@ lowest_stranded m xs r = first_below (stranded_by xs (steps m r)) m.columns
 abbrev pub strands : Option ℕ → Test
 strands lowest = (is_some lowest, told NoWayHome 0 (unwrap_or lowest 0))
 
+-- whether the load that a robot has is not the load that is asked for
+abbrev pub misloaded : Bool → Bool → Bool
+misloaded true carried = not carried
+misloaded false carried = carried
+
+-- what a lay, with a block, and a lift, without one, ask alike
+abbrev pub change_tests : Meaning → Columns → Bool → ℕ → ℕ → List Test
+change_tests m xs block c d =
+    (when (off m c || off m d) NoColumn)
+    ∷ (when (not (stands (state_at xs c))) NoStandingRobot)
+    ∷ (when (misloaded block (carries (state_at xs c))) WrongLoad)
+    ∷ (when (not (m.linked c d) || m.border d) NoLink)
+    ∷ (when (held (state_at xs d)) ColumnHeld) ∷ []
+
 -- the tests of a lay and of a lift but for the last, which asks for a way home
 abbrev pub lay_tests : Meaning → SiteSettings → Columns → ℕ → ℕ → List Test
 lay_tests m s xs c d =
-    (when (off m c || off m d) NoColumn)
-    ∷ (when (not (stands (state_at xs c))) NoStandingRobot)
-    ∷ (when (not (carries (state_at xs c))) WrongLoad)
-    ∷ (when (not (m.linked c d) || m.border d) NoLink)
-    ∷ (when (held (state_at xs d)) ColumnHeld)
-    ∷ (when (not (height_at xs c == height_at xs d) || nat_le s.levels (suc (height_at xs d))) WrongHeights) ∷ []
+    change_tests m xs true c d
+    ++ (when (not (height_at xs c == height_at xs d) || nat_le s.levels (suc (height_at xs d))) WrongHeights) ∷ []
 
 abbrev pub lift_tests : Meaning → Columns → ℕ → ℕ → List Test
-lift_tests m xs c d =
-    (when (off m c || off m d) NoColumn)
-    ∷ (when (not (stands (state_at xs c))) NoStandingRobot)
-    ∷ (when (carries (state_at xs c)) WrongLoad)
-    ∷ (when (not (m.linked c d) || m.border d) NoLink)
-    ∷ (when (held (state_at xs d)) ColumnHeld)
-    ∷ (when (not (height_at xs d == suc (height_at xs c))) WrongHeights) ∷ []
+lift_tests m xs c d = change_tests m xs false c d ++ (when (not (height_at xs d == suc (height_at xs c))) WrongHeights) ∷ []
 
 -- the tests of each call; `lies` is how the ground lies with the column changing that it is given
 abbrev pub tests : Meaning → SiteSettings → Columns → (ℕ → Relief) → Call → List Test
@@ -117,6 +122,10 @@ grant v k =
       columns = granted v.settings v.columns k;
       marks = granted_marks v.meaning v.columns v.marks k;
     }
+
+-- the site as a change of column d begins: both columns have their parts, and d is marked
+abbrev pub changing : Scene → ℕ → Part → ℕ → Part → ℕ → Scene
+changing v c here d there n = with_columns (with_marks v (slice_set v.marks d 1)) (put (put v.columns c (Busy here n)) d (Busy there n))
 
 abbrev pub settle : {X : Type 0} → Option Told → X → X → X
 settle None new old = new

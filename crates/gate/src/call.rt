@@ -1,6 +1,6 @@
 // The calls that a site takes.
 
-#[derive(Clone, Copy)]
+#[derive(Clone, Copy, PartialEq, Eq, Debug)]
 pub enum Call {
     Enter { column: u16, block: bool },
     Move { from: u16, to: u16 },

@@ -5,7 +5,7 @@ ghost use Rattle.gate.specs.Column.{built, column, stays, rest, robot_in, block_
 use ways::Tall;
 
 // A column's part in an action that runs, with the action's other column where there is one.
-#[derive(Clone, Copy)]
+#[derive(Clone, Copy, PartialEq, Eq, Debug)]
 pub enum Part {
     Entering { block: bool },
     Leaving { block: bool },
@@ -18,14 +18,16 @@ pub enum Part {
 }
 
 // What a column does: nothing, a robot stands there, or it has a part in an action, with the ticks left.
-#[derive(Clone, Copy)]
+#[derive(Clone, Copy, PartialEq, Eq, Debug, Default)]
 pub enum State {
+    #[default]
     Free,
     Standing { block: bool },
     Busy { part: Part, left: u8 },
 }
 
-#[derive(Clone, Copy)]
+// By default it is free, at height 0.
+#[derive(Clone, Copy, PartialEq, Eq, Debug, Default)]
 pub struct Column {
     pub height: u8,
     pub state: State,
@@ -36,11 +38,10 @@ impl Part {
     fn has_robot(self) -> bool
         ensures { result ≡ robot_in self }
     {
-        match self {
-            Part::Entering { .. } | Part::Leaving { .. } | Part::Departing { .. } => true,
-            Part::Laying { .. } | Part::Lifting { .. } => true,
-            Part::Arriving { .. } | Part::Rising { .. } | Part::Sinking { .. } => false,
-        }
+        !matches!(
+            self,
+            Part::Arriving { .. } | Part::Rising { .. } | Part::Sinking { .. }
+        )
     }
 
     // Whether that robot has a block.
@@ -82,30 +83,21 @@ impl State {
     pub(crate) fn is_held(self) -> bool
         ensures { result ≡ held self }
     {
-        match self {
-            State::Free => false,
-            State::Standing { .. } | State::Busy { .. } => true,
-        }
+        !matches!(self, State::Free)
     }
 
     // Whether an action runs at the column.
-    pub(crate) fn runs(self) -> bool
+    pub fn runs(self) -> bool
         ensures { result ≡ runs self }
     {
-        match self {
-            State::Free | State::Standing { .. } => false,
-            State::Busy { .. } => true,
-        }
+        matches!(self, State::Busy { .. })
     }
 
     // Whether a robot stands at the column: no action of it runs.
     pub(crate) fn stands(self) -> bool
         ensures { result ≡ stands self }
     {
-        match self {
-            State::Standing { .. } => true,
-            State::Free | State::Busy { .. } => false,
-        }
+        matches!(self, State::Standing { .. })
     }
 
     // Whether a robot is at the column.
@@ -134,13 +126,13 @@ impl State {
     pub(crate) fn is_changing(self) -> bool
         ensures { result ≡ changes self }
     {
-        match self {
+        matches!(
+            self,
             State::Busy {
                 part: Part::Rising { .. } | Part::Sinking { .. },
                 ..
-            } => true,
-            _ => false,
-        }
+            }
+        )
     }
 }
 

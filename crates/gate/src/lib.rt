@@ -5,7 +5,6 @@ mod call;
 mod calls;
 mod column;
 mod looking;
-mod opening;
 mod order;
 mod plot;
 mod recall;

@@ -1,7 +1,7 @@
 // Recall: which robot goes home next, and how.
 ghost use Rattle.std.specs.Prelude.{◌≡◌, ◌≤◌};
 ghost use Rattle.ways.specs.View.{steps_in};
-ghost use Rattle.gate.specs.Recall.{robot_steps, better, best_below, cost_of, toll, next_by, any_runs, recall, recall_of, Homeward, Recalled};
+ghost use Rattle.gate.specs.Recall.{robot_steps, best_below, cost_of, toll, next_by, any_runs, recall, recall_of, Homeward, Recalled};
 ghost use Rattle.gate.specs.View.{scene_of};
 
 use crate::order::{Next, Order};
@@ -10,33 +10,17 @@ use ground::Ground;
 use terms::{Refusal, Rule};
 use ways::Ways;
 
-// Of the best column so far and another the one with fewer steps, the first where they have as many.
-fn better(best: Option<(u16, u16)>, column: u16, steps: Option<u16>) -> Option<(u16, u16)>
-    ensures { result ≡ better best column steps }
-{
-    match (best, steps) {
-        (_, None) => best,
-        (None, Some(k)) => Some((column, k)),
-        (Some((_, j)), Some(k)) => if k < j { Some((column, k)) } else { best },
-    }
-}
-
 impl<G: Ground> Site<G> {
     // Whether an action runs.
     fn any_runs(&self) -> bool
-        ensures { result ≡ any_runs (G.Ground.meaning self.now.ground) (scene_of G.Ground.meaning self.now).columns }
+        ensures { result ≡ any_runs (scene_of self.now).meaning (scene_of self.now).columns }
     {
-        for column in 0..self.ground.columns() {
-            if self.look(column).state.runs() {
-                return true;
-            }
-        }
-        false
+        self.columns.iter().any(|here| here.state.runs())
     }
 
     // The steps home of the robot at a column, if one is there and has a way.
     fn robot_steps(&self, ways: &Ways, column: u16) -> Option<u16>
-        ensures { result ≡ robot_steps (scene_of G.Ground.meaning self.now).columns (steps_in ways.now) column }
+        ensures { result ≡ robot_steps (scene_of self.now).columns (steps_in ways.now) column }
     {
         if self.look(column).state.has_robot() {
             ways.steps(column)
@@ -45,53 +29,45 @@ impl<G: Ground> Site<G> {
         }
     }
 
-    // The column of the robot with the fewest steps home, and these steps.
+    // The column of the robot with the fewest steps home, the lowest where several have as many, and these steps.
     fn nearest(&self, ways: &Ways) -> Option<(u16, u16)>
-        ensures { result ≡ best_below (robot_steps (scene_of G.Ground.meaning self.now).columns (steps_in ways.now)) (G.Ground.meaning self.now.ground).columns }
+        ensures { result ≡ best_below (robot_steps (scene_of self.now).columns (steps_in ways.now)) (scene_of self.now).meaning.columns }
     {
-        let mut best = None;
-        for column in 0..self.ground.columns() {
-            best = better(best, column, self.robot_steps(ways, column));
-        }
-        best
+        (0..self.floor.columns())
+            .filter_map(|column| self.robot_steps(ways, column).map(|steps| (column, steps)))
+            .min_by_key(|(_, steps)| *steps)
     }
 
     // How many actions the robots have still to do: each its steps home, and the leave.
     fn toll(&self, ways: &Ways) -> u32
-        ensures { result ≡ toll (G.Ground.meaning self.now.ground) (scene_of G.Ground.meaning self.now).columns (steps_in ways.now) }
+        ensures { result ≡ toll (scene_of self.now).meaning (scene_of self.now).columns (steps_in ways.now) }
     {
-        let mut sum = 0;
-        for column in 0..self.ground.columns() {
-            sum += cost(self.robot_steps(ways, column));
-        }
-        sum
+        (0..self.floor.columns())
+            .map(|column| cost(self.robot_steps(ways, column)))
+            .sum()
     }
 
     // What the robot at a column does next, so many steps from home.
     fn next(&self, ways: &Ways, column: u16, steps: u16) -> Next
-        ensures { result ≡ next_by (G.Ground.meaning self.now.ground) (scene_of G.Ground.meaning self.now).columns (steps_in ways.now) column steps }
+        ensures { result ≡ next_by (scene_of self.now).meaning (scene_of self.now).columns (steps_in ways.now) column steps }
     {
         if steps == 0 {
             return Next::Leaves;
         }
-        match ways.nearer(&self.ground, &self.columns, column) {
-            Some(to) => Next::Moves { to },
-            None => Next::Moves { to: 0 },
-        }
+        let to = ways.nearer(&self.floor, &self.columns, column).unwrap_or(0);
+        Next::Moves { to }
     }
 
     // The next action on the way to an empty site. It starts nothing.
     pub fn recall(&self) -> Result<Order, Refusal>
-        ensures value { recall_of result ≡ recall (scene_of G.Ground.meaning self.now) }
-        ensures words { Homeward (scene_of G.Ground.meaning self.now) → Recalled (scene_of G.Ground.meaning self.now) (recall_of result) }
+        ensures value { recall_of result ≡ recall (scene_of self.now) }
+        ensures words { Homeward (scene_of self.now) → Recalled (scene_of self.now) (recall_of result) }
     {
         if self.any_runs() {
-            return Err(Refusal::plain(Rule::ActionRuns));
+            return Err(Rule::ActionRuns.into());
         }
-        let ways = Ways::search(&self.ground, &self.columns, &self.marks);
-        let Some((column, steps)) = self.nearest(&ways) else {
-            return Err(Refusal::plain(Rule::NoRobot));
-        };
+        let ways = Ways::search(&self.floor, &self.columns, &self.marks);
+        let (column, steps) = self.nearest(&ways).ok_or(Rule::NoRobot)?;
         let next = self.next(&ways, column, steps);
         Ok(Order {
             column,
@@ -106,8 +82,5 @@ fn cost(steps: Option<u16>) -> u32
     ensures value { result ≡ cost_of steps }
     ensures small { result ≤ 65536 }
 {
-    match steps {
-        None => 0,
-        Some(n) => n as u32 + 1,
-    }
+    steps.map_or(0, |n| u32::from(n) + 1)
 }

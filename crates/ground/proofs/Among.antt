@@ -1,44 +1,43 @@
--- A column is linked with just those that are told one by one. Assumes nothing.
-use Rattle.std.proofs.Common.{◌≡◌, ℕ, zero, suc, ◌+◌, ◌<◌, ◌≤◌, Bool, true, false, List, [], ◌∷◌, length, Some, filter, Option, sym, ap, ◌∙◌, subst, ⊎_elim, arith}
-use Rattle.std.specs.List.{range_with_len, AllByRecursion, slice_get}
-use Rattle.std.proofs.ByRecursion.{kept_by_passes}
-use Rattle.std.proofs.lemmas.Option.{slice_get_past}
-use Rattle.std.proofs.lemmas.Bool.{cases_Bool, cases_eq, cases_lt, cond-true, cond-false}
+-- A column is linked with just those that are its neighbours. Assumes nothing.
+use Rattle.std.proofs.Common.{◌≡◌, ℕ, zero, suc, ◌+◌, ◌<◌, ◌≤◌, Bool, true, false, ◌&&◌, ◌||◌, eqb, List, [], ◌∷◌, length, drop, Some, filter, sym, refl, ap, ◌∙◌, ⊎_elim, arith}
+use Rattle.std.specs.List.{range_with_len, list_any, slice_get}
+use Rattle.std.proofs.lemmas.Map.Views.{any-filter_same}
+use Rattle.std.proofs.lemmas.Bool.{and_left, cases_Bool, cases_eq, cond-false, cond-true, eq-eqb, eqb-true, ne_eqb}
+use Rattle.std.proofs.lemmas.List.FromFn.{length-range_with_len}
 use Rattle.ground.specs.Meaning.{Meaning, Lawful, neighbours}
 
-all_nth : (P : ℕ → Type 0) (xs : List ℕ) (k d : ℕ) → AllByRecursion P xs → slice_get xs k ≡ Some d → P d
-all_nth P [] k d a h = let z : ◌≡◌ {A = ℕ} 0 1 = cc in absurd (omega arith)
-all_nth P (x ∷ xs) zero d a h = let e : x ≡ d = cc in subst P e a.0
-all_nth P (x ∷ xs) (suc k) d a h = all_nth P xs k d a.1 h
-
--- what passes a test stands somewhere among those that it keeps
-place : (p : ℕ → Bool) (n a d : ℕ) → a ≤ d → d < a + n → p d ≡ true → (k : ℕ) × (slice_get (filter p (range_with_len a n)) k ≡ Some d)
-place p zero a d low high h = absurd (omega arith)
-place p (suc n) a d low high h =
+in_range : (d n a : ℕ) → a ≤ d → d < a + n → list_any (λ x. eqb x d) (range_with_len a n) ≡ true
+in_range d zero a low high = absurd (omega arith)
+in_range d (suc n) a low high =
     ⊎_elim
-    (λ (here : a ≡ d). (0, ap (λ xs. slice_get xs 0) (cond-true (p a) _ _ (subst (λ x. p x ≡ true) (sym here) h)) ∙ ap (λ x. Some x) here))
-    (λ (later : a ≡ d → ⊥).
-    let rest = place p n (a + 1) d (omega arith) (omega arith) h in
-    ⊎_elim
-    (λ (t : p a ≡ true). (suc rest.0, ap (λ xs. slice_get xs (suc rest.0)) (cond-true (p a) _ _ t) ∙ rest.1))
-    (λ (f : p a ≡ false). (rest.0, ap (λ xs. slice_get xs rest.0) (cond-false (p a) _ _ f) ∙ rest.1))
-    (cases_Bool (p a)))
+    (λ (here : a ≡ d). ap (λ b. b || list_any (λ x. eqb x d) (range_with_len (a + 1) n)) (eq-eqb a d here))
+    (λ (later : a ≡ d → ⊥). ap (λ b. b || list_any (λ x. eqb x d) (range_with_len (a + 1) n)) (ne_eqb a d later) ∙ in_range d n (a + 1) (omega arith) (omega arith))
     (cases_eq a d)
 
-pub told_linked : (m : Meaning) (c d k : ℕ) (o : Option ℕ) (e : ℕ) → o ≡ slice_get (neighbours m c) k → o ≡ Some e → e ≡ d → m.linked c d ≡ true
-told_linked m c d k o e is some same =
-    let h : slice_get (neighbours m c) k ≡ Some d = sym is ∙ some ∙ ap (λ x. Some x) same in
-    all_nth (λ x. m.linked c x ≡ true) (neighbours m c) k d (kept_by_passes (m.linked c) (range_with_len 0 m.columns)) h
-
-pub untold_apart : (m : Meaning) (c d most : ℕ) → Lawful m → length (neighbours m c) ≤ most → ((k : ℕ) → k < most → slice_get (neighbours m c) k ≡ Some d → ⊥) → m.linked c d ≡ false
-untold_apart m c d most law few none =
+pub linked_among : (m : Meaning) (c d : ℕ) → Lawful m → list_any (λ x. eqb x d) (neighbours m c) ≡ m.linked c d
+linked_among m c d law =
+    any-filter_same (λ x. eqb x d) (m.linked c) (m.linked c d) (λ k e. ap (m.linked c) (eqb-true k d e)) (range_with_len 0 m.columns) ∙
     ⊎_elim
-    (λ (t : m.linked c d ≡ true).
-    let lt : d < m.columns = law.within c d t in
-    let at = place (m.linked c) m.columns 0 d (omega arith) (omega arith) t in
-    absurd (⊎_elim
-    (λ (l : at.0 < most). none at.0 l at.1)
-    (λ (g : most ≤ at.0). let no_such = slice_get_past (neighbours m c) at.0 (omega arith) in let is = at.1 in let z : ◌≡◌ {A = ℕ} 0 1 = cc in omega arith)
-    (cases_lt at.0 most)))
-    (λ f. f)
+    (λ (t : m.linked c d ≡ true). ap (λ b. b && list_any (λ x. eqb x d) (range_with_len 0 m.columns)) t ∙ in_range d m.columns 0 (omega arith) (omega (arith, law.within c d t)) ∙ sym t)
+    (λ (f : m.linked c d ≡ false). and_left (m.linked c d) _ f ∙ sym f)
     (cases_Bool (m.linked c d))
+
+-- the next item in front of those that are left
+pub next_item : (xs : List ℕ) (k d : ℕ) → slice_get xs k ≡ Some d → drop k xs ≡ d ∷ drop (k + 1) xs
+next_item [] k d h = let z : ◌≡◌ {A = ℕ} 0 1 = cc in absurd (omega arith)
+next_item (x ∷ xs) zero d h = let e : x ≡ d = cc in ap (λ y. y ∷ xs) e
+next_item (x ∷ xs) (suc k) d h = next_item xs k d h ∙ ap (λ n. d ∷ drop n (x ∷ xs)) plus
+  where
+    plus : suc (k + 1) ≡ suc k + 1
+    plus = omega arith
+
+length_filter : (p : ℕ → Bool) (xs : List ℕ) → length (filter p xs) ≤ length xs
+length_filter p [] = omega arith
+length_filter p (x ∷ xs) = go (p x) refl (length_filter p xs)
+  where
+    go : (b : Bool) → p x ≡ b → length (filter p xs) ≤ length xs → length (filter p (x ∷ xs)) ≤ suc (length xs)
+    go true t ih = omega (arith, ap length (cond-true (p x) (x ∷ filter p xs) (filter p xs) t), ih)
+    go false f ih = omega (arith, ap length (cond-false (p x) (x ∷ filter p xs) (filter p xs) f), ih)
+
+pub few_neighbours : (m : Meaning) (c : ℕ) → Lawful m → length (neighbours m c) ≤ 256
+few_neighbours m c law = omega (arith, length_filter (m.linked c) (range_with_len 0 m.columns), length-range_with_len 0 m.columns, law.few)

@@ -1,10 +1,11 @@
 pub mod Among
 pub mod Picks
+pub mod EmptyPlaces
+pub mod Scans
 pub mod Ordered
 pub mod Climbing
-pub mod Scans
+pub mod Made
 pub mod Filling
 pub mod Crowds
 pub mod Makes
 pub mod Refuses
-pub mod Rows

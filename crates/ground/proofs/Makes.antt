@@ -5,7 +5,8 @@ use Rattle.std.proofs.lemmas.List.{get_or_past}
 use Rattle.std.proofs.lemmas.Bool.{cases_lt, ltb-false, ltb-true, or_from}
 use Rattle.std.proofs.lemmas.Bool.Decides.{nat_tests}
 use Rattle.ground.specs.Listing.{IsBorderList, Link, ascends, joins, listed, some_joins}
-use Rattle.ground.specs.Meaning.{Same, neighbours}
+use Rattle.ground.specs.Lawful.{listed_lawful}
+use Rattle.ground.specs.Meaning.{Lawful, Same, neighbours}
 use Rattle.ground.specs.Members.{has}
 use Rattle.ground.specs.Table.{Filled, entries, in_row, no_row, other, tabled}
 use Rattle.ground.specs.declared.row.Row.{Row}
@@ -101,3 +102,6 @@ module _ (n : ℕ) (border : List ℕ) (ks : List Link) (rows : List Row) (list 
 
   pub rows_tell : (c : ℕ) → neighbours (tabled n rows) c ≡ in_row n rows c
   rows_tell c = kept_rising ((tabled n rows).linked c) n (rows_within c) (in_row n rows c) (rise_at c (ltb c n) refl) (λ d. refl)
+
+  pub rows_lawful : Lawful (tabled n rows)
+  rows_lawful = listed_lawful n rows list.low list.high rows_within rows_back rows_apart

@@ -7,10 +7,8 @@ use Rattle.std.proofs.lemmas.Bool.Decides.{Decides-and, Decides-below_or, Decide
 use Rattle.terms.specs.declared.refusal.Rule.TheVariants.{BorderList, LinkOrder, SeventhLink}
 use Rattle.terms.specs.Refusals.{Settles, told}
 use Rattle.terms.proofs.First.{first_settles}
+use Rattle.terms.proofs.Tests.{decides_leb}
 use Rattle.ground.specs.Listing.{Above, IsBorderList, Crowded, Inside, Link, IsLinkOrder, above, ascends, border_fits, crowded, listing_reasons, listing_refusal, touches}
-
-decides_leb : (a b : ℕ) → Decides (leb a b) (a ≤ b)
-decides_leb a b = (leb-true a b, le-leb a b)
 
 decides_bits : (border : List ℕ) → Decides (list_all (λ b. leb b 1) border) ((c : ℕ) → c < length border → get_or border c 0 ≤ 1)
 decides_bits border =

@@ -1,26 +1,13 @@
--- The tests of a listed ground, one element at a time from the front. Assumes nothing.
-use Rattle.std.proofs.Common.{◌≡◌, ℕ, ◌+◌, ◌<◌, ◌≤◌, Bool, true, false, ◌&&◌, eqb, ltb, leb, List, length, get_or, drop, sym, ap, ◌∙◌}
+-- The links of a list, one after the other from the front. Assumes nothing.
+use Rattle.std.proofs.Common.{◌≡◌, ℕ, ◌+◌, ◌<◌, ◌≤◌, true, false, ◌&&◌, eqb, ltb, leb, List, length, get_or, drop, sym, ap, ◌∙◌}
 use Rattle.std.specs.List.{list_all}
 use Rattle.std.proofs.lemmas.List.{at_drop_all, at_drop_more}
-use Rattle.std.proofs.lemmas.Bool.{and_from, and_left, and_right, eq-eqb, le-leb, le-ltb, lt-leb, lt-ltb}
+use Rattle.std.proofs.lemmas.Bool.{and_from, and_left, and_right, eq-eqb, le-leb, le-ltb, lt-ltb}
 use Rattle.ground.specs.Listing.{Link, above, ascends, border_fits}
 
-abbrev bits : List ℕ → Bool
-bits xs = list_all (λ b. leb b 1) xs
-
-module _ (xs : List ℕ) (i : ℕ) where
-  bits_no : i < length xs → 1 < get_or xs i 0 → bits (drop i xs) ≡ false
-  bits_no lt h = at_drop_more bits xs i 0 lt ∙ and_left (leb (get_or xs i 0) 1) _ (lt-leb (get_or xs i 0) 1 h)
-
-  pub border_no : (n : ℕ) → i < length xs → 1 < get_or xs i 0 → bits (drop i xs) ≡ bits xs → border_fits n xs ≡ false
-  border_no n lt h inv = and_right (leb 1 n && leb n 256) _ (and_right (eqb (length xs) n) _ (sym inv ∙ bits_no lt h))
-
-  pub border_yes : (n : ℕ) → length xs ≤ i → bits (drop i xs) ≡ bits xs → 1 ≤ n → n ≤ 256 → length xs ≡ n → border_fits n xs ≡ true
-  border_yes n end inv low high long =
-      and_from (leb 1 n && leb n 256) _ (and_from (leb 1 n) (leb n 256) (le-leb 1 n low) (le-leb n 256 high)) (and_from (eqb (length xs) n) (bits xs) (eq-eqb (length xs) n long) (sym inv ∙ at_drop_all bits xs i end))
-
-  pub bits_yes : i < length xs → get_or xs i 0 ≤ 1 → bits (drop i xs) ≡ bits (drop (i + 1) xs)
-  bits_yes lt h = at_drop_more bits xs i 0 lt ∙ ap (λ b. b && bits (drop (i + 1) xs)) (le-leb (get_or xs i 0) 1 h)
+pub border_fits_yes : (n : ℕ) (xs : List ℕ) → 1 ≤ n → n ≤ 256 → length xs ≡ n → list_all (λ b. leb b 1) xs ≡ border_fits n xs
+border_fits_yes n xs low high long =
+    sym (ap (λ b. b && (eqb (length xs) n && list_all (λ b. leb b 1) xs)) (and_from (leb 1 n) (leb n 256) (le-leb 1 n low) (le-leb n 256 high)) ∙ ap (λ b. b && list_all (λ b. leb b 1) xs) (eq-eqb (length xs) n long))
 
 module _ (n : ℕ) (before : Link) (ks : List Link) (i : ℕ) where
   abbrev this : Link

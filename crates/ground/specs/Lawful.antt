@@ -1,10 +1,10 @@
 -- The square and the listed ground obey what every ground obeys. Assumes nothing.
-use Rattle.std.specs.Prelude.{◌≡◌, ℕ, ◌+◌, ◌*◌, ◌/◌, ◌%◌, ◌<◌, ◌≤◌, Bool, true, false, cond, ◌&&◌, List, [], length, ◌==◌, nat_lt, slice_index_or}
+use Rattle.std.specs.Prelude.{◌≡◌, ℕ, ◌+◌, ◌*◌, ◌/◌, ◌%◌, ◌<◌, ◌≤◌, Bool, true, false, cond, ◌&&◌, List, [], ◌∷◌, length, Option, Some, None, ◌==◌, nat_lt, slice_index_or, refl}
 use Rattle.std.proofs.Common.{sym, ◌∙◌, ⊎_elim, mul-le-mul, mul-pos, arith}
 use Rattle.std.proofs.Math.Bool.{or_comm}
 use Rattle.std.proofs.lemmas.Bool.{and_from, and_parts, and_right, cases_eq, eq-eqb, ltb-true, ne_eqb, or_from}
-use Rattle.std.proofs.lemmas.List.{length-take}
 use Rattle.ground.specs.Meaning.{Lawful, neighbours}
+use Rattle.ground.specs.Members.{somes}
 use Rattle.ground.specs.Squared.{beside, near, squared}
 use Rattle.ground.specs.Table.{entries, in_row, no_row, tabled}
 use Rattle.ground.specs.declared.row.Row.{Row}
@@ -56,11 +56,17 @@ listed_lawful n rows low high within both_ways no_loop = record {
   no_loop = no_loop;
 }
 
-few_entries : (b : Bool) (r : Row) → r.count ≤ 6 → length (cond b (entries r) []) ≤ 6
-few_entries true r h = omega (arith, length-take r.count r.to)
+-- no more places are filled than there are
+pub few_somes : (os : List (Option ℕ)) → length (somes os) ≤ length os
+few_somes [] = omega arith
+few_somes (Some x ∷ os) = omega (arith, few_somes os)
+few_somes (None ∷ os) = omega (arith, few_somes os)
+
+few_entries : (b : Bool) (r : Row) → (b ≡ true → length r.to ≡ 6) → length (cond b (entries r) []) ≤ 6
+few_entries true r h = omega (arith, few_somes r.to, h refl)
 few_entries false r h = omega arith
 
 -- and no column has more links than a row holds
-pub listed_few : (n : ℕ) (rows : List Row) → ((c : ℕ) → (slice_index_or rows c no_row).count ≤ 6)
+pub listed_few : (n : ℕ) (rows : List Row) → ((c : ℕ) → c < n → length (slice_index_or rows c no_row).to ≡ 6)
     → ((c : ℕ) → neighbours (tabled n rows) c ≡ in_row n rows c) → (c : ℕ) → length (neighbours (tabled n rows) c) ≤ 6
-listed_few n rows short tell c = rw tell (few_entries (nat_lt c n) (slice_index_or rows c no_row) (short c))
+listed_few n rows wide tell c = rw tell (few_entries (nat_lt c n) (slice_index_or rows c no_row) (λ t. wide c (ltb-true c n t)))

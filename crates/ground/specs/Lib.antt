@@ -1,4 +1,5 @@
 pub mod Meaning
+pub mod Walk
 pub mod Members
 pub mod Squared
 pub mod Sides

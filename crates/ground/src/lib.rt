@@ -8,6 +8,8 @@ ghost use Rattle.ground.specs.Meaning.{Meaning, Lawful, neighbours};
 mod linking;
 mod listed;
 mod listed_ground;
+mod neighbours;
+mod places;
 mod row;
 mod square;
 mod square_ground;
@@ -16,20 +18,17 @@ mod tests;
 
 pub use linking::is_linked;
 pub use listed::Listed;
+pub use neighbours::Neighbours;
 pub use square::Square;
 
 // A kind of ground. What it means is given by ghost members, and it tells just that.
 pub trait Ground {
-    // The most links that a column of this kind may have.
+    // The most links that a column of this kind may have, in code and in clauses.
     const MOST_LINKS: usize;
 
+    ghost MOST_LINKS: { ℕ };
+
     ghost meaning: { Self → Meaning };
-
-    ghost most: { ℕ };
-
-    // The constant, as clauses know it.
-    fn limit() -> usize
-        ensures { result ≡ most };
 
     // How many columns there are.
     fn columns(&self) -> u16
@@ -49,5 +48,5 @@ pub trait Ground {
 
     ghost lawful: { (g : Self) → Lawful (meaning g) };
 
-    ghost few: { (g : Self) (c : ℕ) → length (neighbours (meaning g) c) ≤ most };
+    ghost few: { (g : Self) (c : ℕ) → length (neighbours (meaning g) c) ≤ MOST_LINKS };
 }

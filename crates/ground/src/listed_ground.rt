@@ -1,47 +1,37 @@
 // Making a listed ground, and what it tells.
-ghost use Rattle.std.specs.Prelude.{◌≡◌, ◌≤◌, [], length, MatchOption};
+ghost use Rattle.std.specs.Prelude.{◌≡◌, ◌<◌, ◌≤◌, [], length, slice_index_or, MatchOption};
 ghost use Rattle.std.specs.List.{flat_map};
 ghost use Rattle.terms.specs.Refusals.{Answers, Settles, refusal_in};
-ghost use Rattle.ground.specs.Listing.{Inside, Crowded, above, ascends, border_fits, listed, listing_refusal, listing_reasons};
+ghost use Rattle.ground.specs.Listing.{Inside, Crowded, ascends, border_fits, listed, listing_refusal, listing_reasons};
 ghost use Rattle.ground.specs.Meaning.{Same};
-ghost use Rattle.ground.specs.Table.{Filled, other};
+ghost use Rattle.ground.specs.Table.{Filled, no_row, other};
 ghost use Rattle.ground.specs.View.{listed_of};
-ghost use Rattle.ground.specs.Lawful.{listed_lawful, listed_few};
+ghost use Rattle.ground.specs.Lawful.{listed_few};
 
+use crate::places::{count, pick};
 use crate::row::Row;
 use crate::{Ground, Listed};
+use std::array;
 use terms::{Refusal, Rule};
 
 // Whether there are 1 to 256 columns, and a byte of 0 or 1 for each.
 fn is_border_list(columns: u16, border: &[u8]) -> bool
     ensures { result ≡ border_fits columns border.now }
 {
-    if columns < 1 || columns > 256 || border.len() != columns as usize {
-        return false;
-    }
-    for byte in border {
-        if *byte > 1 {
-            return false;
-        }
-    }
-    true
-}
-
-// Whether a link is above another, by its lower column and then by its higher one.
-fn is_above(link: (u16, u16), before: (u16, u16)) -> bool
-    ensures { result ≡ above link before }
-{
-    before.0 < link.0 || before.0 == link.0 && before.1 < link.1
+    (1..=256).contains(&columns)
+        && border.len() == usize::from(columns)
+        && border.iter().all(|byte| *byte <= 1)
 }
 
 // Whether each link goes from a lower column to a higher one of the ground, and is above the one before it.
+// A `for` with the link before: `is_sorted_by` for their order and `all` for their ends are no plainer, two tests for one.
 fn is_link_list(columns: u16, links: &[(u16, u16)]) -> bool
     ensures { result ≡ ascends columns (0, 0) links.now }
 {
     let mut before = (0, 0);
     for link in links {
         let (lower, higher) = *link;
-        if !is_above(*link, before) || lower >= higher || higher >= columns {
+        if *link <= before || lower >= higher || higher >= columns {
             return false;
         }
         before = *link;
@@ -54,11 +44,10 @@ fn bordered(border: &[u8]) -> [Row; 256]
     requires { length border.now ≤ 256 }
     ensures { Filled border.now (λ _. []) result }
 {
-    let mut rows = [Row::EMPTY; 256];
-    for (column, byte) in border.iter().enumerate() {
-        rows[column].border = *byte == 1;
-    }
-    rows
+    array::from_fn(|column| Row {
+        border: border.get(column) == Some(&1),
+        to: [None; 6],
+    })
 }
 
 // Rows with a border and links, unless a column would have a seventh link.
@@ -69,34 +58,38 @@ fn filled(border: &[u8], links: &[(u16, u16)]) -> Option<[Row; 256]>
     let mut rows = bordered(border);
     for link in links {
         let (lower, higher) = *link;
-        let Some(row) = rows[lower as usize].with_link(higher) else {
-            return None;
-        };
-        rows[lower as usize] = row;
-        let Some(row) = rows[higher as usize].with_link(lower) else {
-            return None;
-        };
-        rows[higher as usize] = row;
+        // Widened by `as`: the proof speaks of the link's own numbers, and not of what two calls of `from` give.
+        rows[lower as usize] = rows[lower as usize].with_link(higher)?;
+        rows[higher as usize] = rows[higher as usize].with_link(lower)?;
     }
     Some(rows)
 }
 
 impl Listed {
     // The ground of a border list, a byte for each column, and of links, each by its lower and its higher column.
+    // Bytes, and not bools: one that is neither 0 nor 1 is refused, and to take bools would ask more of callers.
     pub fn new(columns: u16, border: &[u8], links: &[(u16, u16)]) -> Result<Listed, Refusal>
         ensures value { Answers (listing_refusal columns border.now links.now) (λ l. Same (listed_of l) (listed columns border.now links.now)) result }
         ensures words { Settles (listing_reasons columns border.now links.now) (refusal_in result) }
     {
         if !is_border_list(columns, border) {
-            return Err(Refusal::plain(Rule::BorderList));
+            return Err(Rule::BorderList.into());
         }
         if !is_link_list(columns, links) {
-            return Err(Refusal::plain(Rule::LinkOrder));
+            return Err(Rule::LinkOrder.into());
         }
-        let Some(rows) = filled(border, links) else {
-            return Err(Refusal::plain(Rule::SeventhLink));
-        };
+        let rows = filled(border, links).ok_or(Rule::SeventhLink)?;
         Ok(Listed { columns, rows })
+    }
+
+    // The row of a column, if there is such a column.
+    fn row(&self, column: u16) -> Option<&Row>
+        ensures { MatchOption result (self.now.columns ≤ column) (λ row. (column < self.now.columns) × (row.now ≡ slice_index_or self.now.rows column no_row)) }
+    {
+        if column >= self.columns {
+            return None;
+        }
+        self.rows.get(usize::from(column))
     }
 }
 
@@ -105,35 +98,25 @@ impl Ground for Listed {
 
     ghost meaning = { listed_of };
 
-    ghost most = { 6 };
+    ghost MOST_LINKS = { 6 };
 
-    ghost lawful = { λ g. listed_lawful g.columns g.rows g.columns_low g.columns_high g.within g.both_ways g.no_loop };
+    ghost lawful = { λ g. g.lawful };
 
-    ghost few = { λ g. listed_few g.columns g.rows g.rows_short g.rows_tell };
-
-    fn limit() -> usize {
-        Self::MOST_LINKS
-    }
+    ghost few = { λ g. listed_few g.columns g.rows g.rows_wide g.rows_tell };
 
     fn columns(&self) -> u16 {
         self.columns
     }
 
     fn is_border(&self, column: u16) -> bool {
-        column < self.columns && self.rows[column as usize].border
+        self.row(column).is_some_and(|row| row.border)
     }
 
     fn links(&self, column: u16) -> usize {
-        if column >= self.columns {
-            return 0;
-        }
-        self.rows[column as usize].count as usize
+        self.row(column).map_or(0, |row| count(&row.to))
     }
 
     fn link(&self, column: u16, k: usize) -> Option<u16> {
-        if column >= self.columns {
-            return None;
-        }
-        self.rows[column as usize].at(k)
+        pick(&self.row(column)?.to, k)
     }
 }

@@ -1,6 +1,5 @@
 // Making a square ground, and what it tells.
-ghost use Rattle.std.specs.Prelude.{◌≡◌, ◌≤◌, length};
-ghost use Rattle.std.specs.List.{slice_get};
+ghost use Rattle.std.specs.Prelude.{◌≡◌, ◌≤◌};
 ghost use Rattle.terms.specs.Refusals.{Answers, Settles, refusal_in};
 ghost use Rattle.ground.specs.Meaning.{neighbours};
 ghost use Rattle.ground.specs.Members.{somes};
@@ -10,6 +9,7 @@ ghost use Rattle.ground.specs.View.{square_of};
 ghost use Rattle.ground.specs.Lawful.{square_lawful};
 ghost use Rattle.ground.specs.Beside.{sides_few};
 
+use crate::places::{count, pick};
 use crate::{Ground, Square};
 use terms::{Refusal, Rule};
 
@@ -19,8 +19,8 @@ impl Square {
         ensures value { Answers (square_refusal x y) (λ s. square_of s ≡ squared x y) result }
         ensures words { Settles (square_reasons x y) (refusal_in result) }
     {
-        if x < 1 || x > 16 || y < 1 || y > 16 {
-            return Err(Refusal::plain(Rule::SquareSize));
+        if !(1..=16).contains(&x) || !(1..=16).contains(&y) {
+            return Err(Rule::SquareSize.into());
         }
         Ok(Square {
             x: x as u8,
@@ -32,7 +32,7 @@ impl Square {
     fn around(&self, column: u16) -> [Option<u16>; 4]
         ensures { somes result ≡ neighbours (square_of self.now) column }
     {
-        sides(self.x as u16, self.y as u16, column)
+        sides(u16::from(self.x), u16::from(self.y), column)
     }
 }
 
@@ -46,48 +46,12 @@ fn sides(x: u16, y: u16, column: u16) -> [Option<u16>; 4]
         return [None; 4];
     }
     let across = column % y;
-    let before = if column >= y { Some(column - y) } else { None };
-    let left = if across > 0 { Some(column - 1) } else { None };
-    let right = if across + 1 < y {
-        Some(column + 1)
-    } else {
-        None
-    };
-    let behind = if column + y < columns {
-        Some(column + y)
-    } else {
-        None
-    };
-    [before, left, right, behind]
-}
-
-// How many of some sides are there.
-fn count(sides: &[Option<u16>]) -> usize
-    ensures { result ≡ length (somes sides.now) }
-{
-    let mut count = 0;
-    for side in sides {
-        if side.is_some() {
-            count += 1;
-        }
-    }
-    count
-}
-
-// Number k of those sides that are there.
-fn pick(sides: &[Option<u16>], k: usize) -> Option<u16>
-    ensures { result ≡ slice_get (somes sides.now) k }
-{
-    let mut left = k;
-    for side in sides {
-        if let Some(linked) = *side {
-            if left == 0 {
-                return Some(linked);
-            }
-            left -= 1;
-        }
-    }
-    None
+    [
+        column.checked_sub(y),
+        (across > 0).then(|| column - 1),
+        (across + 1 < y).then_some(column + 1),
+        (column + y < columns).then_some(column + y),
+    ]
 }
 
 impl Ground for Square {
@@ -95,23 +59,19 @@ impl Ground for Square {
 
     ghost meaning = { square_of };
 
-    ghost most = { 4 };
+    ghost MOST_LINKS = { 4 };
 
     ghost lawful = { λ s. square_lawful s.x s.y s.x_low s.x_high s.y_low s.y_high };
 
     ghost few = { λ s c. sides_few s.x s.y s.y_low c };
 
-    fn limit() -> usize {
-        Self::MOST_LINKS
-    }
-
     fn columns(&self) -> u16 {
-        self.x as u16 * self.y as u16
+        u16::from(self.x) * u16::from(self.y)
     }
 
     fn is_border(&self, column: u16) -> bool {
-        let x = self.x as u16;
-        let y = self.y as u16;
+        let x = u16::from(self.x);
+        let y = u16::from(self.y);
         if column >= x * y {
             return false;
         }

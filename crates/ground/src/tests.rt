@@ -1,41 +1,31 @@
 // What grounds answer on small examples.
 use crate::*;
+use std::array;
 use std::test::Fail;
 use terms::Refusal;
 
-// The number that a refusal is reported under, and 0 where there is none.
-fn refused<T: Drop>(made: Result<T, Refusal>) -> u16 {
-    match made {
-        Ok(_) => 0,
-        Err(refusal) => refusal.rule.number(),
-    }
+// The number that a refusal is reported under, if it is one.
+fn refused<T: Drop>(made: Result<T, Refusal>) -> Option<u16> {
+    made.err().map(|refusal| refusal.rule.number())
 }
 
 // The first five columns linked with a column.
 fn linked<G: Ground>(ground: &G, c: u16) -> [Option<u16>; 5] {
-    [
-        ground.link(c, 0),
-        ground.link(c, 1),
-        ground.link(c, 2),
-        ground.link(c, 3),
-        ground.link(c, 4),
-    ]
+    array::from_fn(|k| ground.link(c, k))
 }
 
 #[test]
 fn square_sizes(rt: HostRuntime) {
-    assert_eq!(rt; refused(Square::new(16, 1)), 0);
-    assert_eq!(rt; refused(Square::new(17, 1)), 1);
-    assert_eq!(rt; refused(Square::new(3, 17)), 1);
-    assert_eq!(rt; refused(Square::new(0, 5)), 1);
-    assert_eq!(rt; refused(Square::new(5, 0)), 1);
+    assert_eq!(rt; refused(Square::new(16, 1)), None);
+    assert_eq!(rt; refused(Square::new(17, 1)), Some(1));
+    assert_eq!(rt; refused(Square::new(3, 17)), Some(1));
+    assert_eq!(rt; refused(Square::new(0, 5)), Some(1));
+    assert_eq!(rt; refused(Square::new(5, 0)), Some(1));
 }
 
 #[test]
 fn square_links(rt: HostRuntime) -> Result<(), Fail> {
-    let Ok(ground) = Square::new(3, 5) else {
-        return Err(Fail::new("3 by 5 is refused"));
-    };
+    let ground = Square::new(3, 5)?;
     assert_eq!(rt;
         linked(&ground, 7),
         [Some(2), Some(6), Some(8), Some(12), None]
@@ -59,9 +49,7 @@ fn square_links(rt: HostRuntime) -> Result<(), Fail> {
 
 #[test]
 fn square_border(rt: HostRuntime) -> Result<(), Fail> {
-    let Ok(ground) = Square::new(3, 5) else {
-        return Err(Fail::new("3 by 5 is refused"));
-    };
+    let ground = Square::new(3, 5)?;
     assert_eq!(rt; ground.columns(), 15);
     assert_eq!(rt;
         [
@@ -84,31 +72,35 @@ fn square_border(rt: HostRuntime) -> Result<(), Fail> {
 
 #[test]
 fn border_lists(rt: HostRuntime) {
-    assert_eq!(rt; refused(Listed::new(0, &[], &[])), 2);
-    assert_eq!(rt; refused(Listed::new(256, &[1; 256], &[])), 0);
-    assert_eq!(rt; refused(Listed::new(257, &[1; 257], &[])), 2);
-    assert_eq!(rt; refused(Listed::new(3, &[1, 2, 0], &[])), 2);
-    assert_eq!(rt; refused(Listed::new(3, &[1, 1], &[])), 2);
+    assert_eq!(rt; refused(Listed::new(0, &[], &[])), Some(2));
+    assert_eq!(rt; refused(Listed::new(256, &[1; 256], &[])), None);
+    assert_eq!(rt; refused(Listed::new(257, &[1; 257], &[])), Some(2));
+    assert_eq!(rt; refused(Listed::new(3, &[1, 2, 0], &[])), Some(2));
+    assert_eq!(rt; refused(Listed::new(3, &[1, 1], &[])), Some(2));
 }
 
 #[test]
 fn link_lists(rt: HostRuntime) {
-    assert_eq!(rt; refused(Listed::new(3, &[1; 3], &[(1, 2), (0, 1)])), 3);
-    assert_eq!(rt; refused(Listed::new(3, &[1; 3], &[(0, 1), (0, 1)])), 3);
-    assert_eq!(rt; refused(Listed::new(3, &[1; 3], &[(1, 1)])), 3);
-    assert_eq!(rt; refused(Listed::new(3, &[1; 3], &[(1, 3)])), 3);
+    assert_eq!(rt;
+        refused(Listed::new(3, &[1; 3], &[(1, 2), (0, 1)])),
+        Some(3)
+    );
+    assert_eq!(rt;
+        refused(Listed::new(3, &[1; 3], &[(0, 1), (0, 1)])),
+        Some(3)
+    );
+    assert_eq!(rt; refused(Listed::new(3, &[1; 3], &[(1, 1)])), Some(3));
+    assert_eq!(rt; refused(Listed::new(3, &[1; 3], &[(1, 3)])), Some(3));
     let six = [(0, 2), (0, 3), (0, 4), (0, 5), (0, 6), (0, 7)];
     let seven = [(0, 1), (0, 2), (0, 3), (0, 4), (0, 5), (0, 6), (0, 7)];
-    assert_eq!(rt; refused(Listed::new(8, &[1; 8], &six)), 0);
-    assert_eq!(rt; refused(Listed::new(8, &[1; 8], &seven)), 4);
+    assert_eq!(rt; refused(Listed::new(8, &[1; 8], &six)), None);
+    assert_eq!(rt; refused(Listed::new(8, &[1; 8], &seven)), Some(4));
 }
 
 #[test]
 fn listed_tells(rt: HostRuntime) -> Result<(), Fail> {
     let links = [(0, 3), (1, 4), (2, 3), (2, 4), (3, 5), (4, 6)];
-    let Ok(ground) = Listed::new(7, &[1, 1, 0, 0, 0, 1, 1], &links) else {
-        return Err(Fail::new("seven columns are refused"));
-    };
+    let ground = Listed::new(7, &[1, 1, 0, 0, 0, 1, 1], &links)?;
     assert_eq!(rt; linked(&ground, 3), [Some(0), Some(2), Some(5), None, None]);
     assert_eq!(rt; linked(&ground, 7), [None; 5]);
     assert_eq!(rt; [ground.links(3), ground.links(7)], [3, 0]);

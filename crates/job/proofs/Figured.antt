@@ -2,6 +2,7 @@
 use Rattle.std.proofs.Common.{◌≡◌, ℕ, zero, suc, ◌<◌, ◌≤◌, ◌⊎◌, List, [], ◌∷◌, map, length, count_by, inl, inr, arith}
 use Rattle.plan.specs.Plan.{Action, line, makespan, runs}
 use Rattle.plan.proofs.Busiest.{busiest}
+use Rattle.plan.proofs.Judged.{ends_by}
 use Rattle.judge.specs.Figures.{Figures}
 use Rattle.job.specs.Replies.{largest, most_at_once}
 
@@ -18,11 +19,6 @@ largest_least f (a ∷ rest) n h =
     let here = h 0 (omega arith) in
     omega arith
 
-makespan_high : (plan : List Action) (i : ℕ) → i < length plan → (line plan i).end ≤ makespan plan
-makespan_high [] i h = absurd (omega arith)
-makespan_high (a ∷ rest) zero h = omega arith
-makespan_high (a ∷ rest) (suc i) h = let ih = makespan_high rest i (omega arith) in omega arith
-
 makespan_least : (plan : List Action) (n : ℕ) → ((i : ℕ) → i < length plan → (line plan i).end ≤ n) → makespan plan ≤ n
 makespan_least [] n h = omega arith
 makespan_least (a ∷ rest) n h =
@@ -38,7 +34,7 @@ makespan_is plan m c k f = go f.one_ends
 
     go : ((length plan ≡ 0) × (m ≡ 0)) ⊎ ((i : ℕ) × (i < length plan) × ((line plan i).end ≡ m)) → m ≡ makespan plan
     go (inl (none, e)) = omega (arith, low)
-    go (inr (i, l, e)) = let h = makespan_high plan i l in omega (arith, low)
+    go (inr (i, l, e)) = let h = ends_by plan i l in omega (arith, low)
 
 pub most_is : (plan : List Action) (m c k : ℕ) → Figures plan m c k → k ≡ most_at_once plan
 most_is plan m c k f = go (busiest f.reached.0 plan)

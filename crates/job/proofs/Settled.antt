@@ -1,11 +1,12 @@
 -- Each test of a job decides its reason in words, so the first that holds settles the job. Assumes nothing.
 use Rattle.std.proofs.Common.{◌≡◌, ℕ, ◌<◌, ◌≤◌, not, ◌&&◌, eqb, leb, List, [], ◌∷◌, ◌++◌, length, get_or, take, is_some, Some, None, Ok, Err, codes, Decides, Option, Result, unwrap_or, refl, arith}
 use Rattle.std.specs.Result.{result_err}
-use Rattle.std.proofs.lemmas.Bool.Decides.{Decides-and, Decides-eqb, Decides-like, Decides-ltb, Decides-not, nat_tests}
+use Rattle.std.proofs.lemmas.Bool.Decides.{Decides-and, Decides-eqb, Decides-like, Decides-ltb, Decides-not}
 use Rattle.terms.specs.Ranges.{settings_from, settings_reasons, settings_refusal, within}
-use Rattle.terms.specs.Refusals.{Settles, Told, first_of, or_else, told}
+use Rattle.terms.specs.Refusals.{Reason, Settles, Told, first_of, or_else, told}
 use Rattle.terms.specs.declared.refusal.Rule.TheVariants.{SheetShape, LineShape, FieldUnreadable, SquareSize, SettingsRange}
 use Rattle.terms.proofs.First.{first_settles}
+use Rattle.terms.proofs.Tests.{decides_leb}
 use Rattle.ground.specs.Squared.{square_reasons, square_refusal, squared}
 use Rattle.sheet.specs.Lines.{spelt}
 use Rattle.sheet.specs.Reading.{reading_refusal}
@@ -57,19 +58,17 @@ field_tells : (r : Result Order ℕ) → told FieldUnreadable 0 (unwrap_or (resu
 field_tells (Ok o) = refl
 field_tells (Err k) = refl
 
-order_settles : (input : List ℕ)
-    → Settles
-    (record { holds = length input < 35; tells = told SheetShape 0 0 }
+-- the reasons in a job's line alone
+abbrev line_reasons : List ℕ → List Reason
+line_reasons input =
+    record { holds = length input < 35; tells = told SheetShape 0 0 }
     ∷ record { holds = JobLine (first_line input) → ⊥; tells = told LineShape 0 0 }
     ∷ record { holds = (k : ℕ) × (order input ≡ Err k); tells = told FieldUnreadable 0 (unread_field (order input)) }
-    ∷ [])
-    (first_of (order_tests input))
+    ∷ []
+
+order_settles : (input : List ℕ) → Settles (line_reasons input) (first_of (order_tests input))
 order_settles input =
-    first_settles (order_tests input)
-    (record { holds = length input < 35; tells = told SheetShape 0 0 }
-    ∷ record { holds = JobLine (first_line input) → ⊥; tells = told LineShape 0 0 }
-    ∷ record { holds = (k : ℕ) × (order input ≡ Err k); tells = told FieldUnreadable 0 (unread_field (order input)) }
-    ∷ []) (
+    first_settles (order_tests input) (line_reasons input) (
       Decides-ltb (length input) 35,
       refl,
       (
@@ -78,9 +77,6 @@ order_settles input =
         (field_decides (order input), field_tells (order input), tt),
       ),
     )
-
-decides_leb : (a b : ℕ) → Decides (leb a b) (a ≤ b)
-decides_leb a b = grind (arith, nat_tests)
 
 within_decides : (low high n : ℕ) → Decides (within low high n) ((low ≤ n) × (n ≤ high))
 within_decides low high n = Decides-and (leb low n) (leb n high) (decides_leb low n) (decides_leb n high)
@@ -126,10 +122,5 @@ after_settles (Ok o) sheet =
 pub job_settles : (input : List ℕ) → Settles (job_reasons input) (job_refusal input)
 unfolding job_reasons
 job_settles input =
-    settles_both
-    (record { holds = length input < 35; tells = told SheetShape 0 0 }
-    ∷ record { holds = JobLine (first_line input) → ⊥; tells = told LineShape 0 0 }
-    ∷ record { holds = (k : ℕ) × (order input ≡ Err k); tells = told FieldUnreadable 0 (unread_field (order input)) }
-    ∷ [])
-    (after_line (order input) (sheet_in input)) (first_of (order_tests input)) (or_else (making_refusal (order input)) (sheet_refusal (order input) (sheet_in input)))
+    settles_both (line_reasons input) (after_line (order input) (sheet_in input)) (first_of (order_tests input)) (or_else (making_refusal (order input)) (sheet_refusal (order input) (sheet_in input)))
     (order_settles input) (after_settles (order input) (sheet_in input))

@@ -3,3 +3,4 @@ pub mod Jobs
 pub mod Replies
 pub mod Words
 pub mod View
+pub mod Written

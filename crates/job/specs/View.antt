@@ -7,7 +7,6 @@ use Rattle.gate.specs.Scene.{Scene, opened}
 use Rattle.undertaking.specs.Runs.{Reply}
 use Rattle.sheet.specs.View.{records_in}
 use Rattle.judge.specs.Verdict.{Accepts, Keeps}
-use Rattle.judge.specs.View.{acceptance_of}
 use Rattle.job.specs.declared.opened.Job.{Job}
 use Rattle.job.specs.declared.opened.Judged.{Judged}
 use Rattle.job.specs.Jobs.{order, sheet_in}
@@ -22,7 +21,7 @@ pub record Judges (input : List ℕ) (j : Judged) : Type 0 where
   pub site : site_of j.job ≡ order_site (order input)
   pub ground : square_of j.job.ground ≡ ground_of (order input)
   pub keeps : Keeps (square_of j.job.ground) (settings_of j.job.settings) (sheet_in input)
-  pub accepts : Accepts (records_in (sheet_in input)) (acceptance_of j.plan)
+  pub accepts : Accepts (records_in (sheet_in input)) j.plan
 
 -- the refusal of one call, if it was refused
 abbrev pub refused_by : Reply → Option Told

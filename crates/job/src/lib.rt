@@ -2,6 +2,7 @@
 #![tactic(auto)]
 
 mod desk;
+mod heights;
 mod line;
 mod opened;
 mod order;

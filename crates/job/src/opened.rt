@@ -31,30 +31,17 @@ pub(crate) struct Judged {
 fn open_job(order: Order) -> Result<Job, Refusal>
     ensures { Answers (making_refusal (Ok order)) (λ j. (square_of j.ground ≡ squared order.x order.y) × (settings_of j.settings ≡ settings_from order.levels order.robots order.set)) result }
 {
-    let ground = match Square::new(order.x, order.y) {
-        Ok(ground) => ground,
-        Err(refusal) => return Err(refusal),
-    };
-    match Settings::new(order.levels, order.robots, order.set) {
-        Ok(settings) => Ok(Job { ground, settings }),
-        Err(refusal) => Err(refusal),
-    }
+    Ok(Job {
+        ground: Square::new(order.x, order.y)?,
+        settings: Settings::new(order.levels, order.robots, order.set)?,
+    })
 }
 
 // Judges a job: its line, and the sheet behind it.
 pub(crate) fn judge_job(input: &[u8], room: Room) -> Result<Judged, Refusal>
     ensures { Answers (job_refusal input.now) (Judges input.now) result }
 {
-    let order = match read_order(input) {
-        Ok(order) => order,
-        Err(refusal) => return Err(refusal),
-    };
-    let job = match open_job(order) {
-        Ok(job) => job,
-        Err(refusal) => return Err(refusal),
-    };
-    match judge(&job.ground, &job.settings, &input[35..], room) {
-        Ok(plan) => Ok(Judged { job, plan }),
-        Err(refusal) => Err(refusal),
-    }
+    let job = open_job(read_order(input)?)?;
+    let plan = judge(&job.ground, &job.settings, &input[35..], room)?;
+    Ok(Judged { job, plan })
 }

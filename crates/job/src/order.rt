@@ -1,6 +1,6 @@
 // The numbers of a job line.
 
-#[derive(Clone, Copy)]
+#[derive(Clone, Copy, PartialEq, Eq, Debug)]
 pub(crate) struct Order {
     pub(crate) x: u32,
     pub(crate) y: u32,

@@ -1,5 +1,5 @@
 -- The first refusal of a list of tests, one test or one run of tests after another. Assumes nothing.
-use Rattle.std.proofs.Common.{◌≡◌, ℕ, zero, suc, ◌+◌, ◌<◌, ◌≤◌, Bool, true, false, cond, ◌⊎◌, List, [], ◌∷◌, ◌++◌, length, get_or, Some, None, Option, refl, ap, ◌∙◌, inl, inr, arith}
+use Rattle.std.proofs.Common.{◌≡◌, ℕ, zero, suc, ◌+◌, ◌<◌, ◌≤◌, Bool, true, false, cond, ◌⊎◌, List, [], ◌∷◌, ◌++◌, length, get_or, Some, None, MatchOption, Option, refl, ap, ◌∙◌, inl, inr, arith}
 use Rattle.std.specs.Option.{option_map}
 use Rattle.std.proofs.lemmas.Bool.{cases_eq}
 use Rattle.terms.specs.Refusals.{Told, first_of, from_on, or_else}
@@ -50,3 +50,10 @@ module _ (q : ℕ → Bool) (tells : ℕ → Told) where
   nothing_from zero i none = refl
   nothing_from (suc k) i none =
       pass (q i) (tells i) _ (none i (omega arith) (omega arith)) ∙ nothing_from k (suc i) (λ d g b. none d (omega arith) (omega arith))
+
+  -- what a search over the numbers below n finds
+  pub first_below : (n : ℕ) (o : Option ℕ)
+      → MatchOption o ((k : ℕ) → 0 ≤ k → k < n → q k ≡ false) (λ i. (0 ≤ i) × (i < n) × (q i ≡ true) × ((k : ℕ) → 0 ≤ k → k < i → q k ≡ false))
+      → first_of (from_on (λ j. (q j, tells j) ∷ []) 0 n) ≡ option_map tells o
+  first_below n None none = nothing_from n 0 (λ d g b. none d g (omega arith))
+  first_below n (Some i) (g, l, y, below) = lowest_from n 0 i g (omega arith) y below

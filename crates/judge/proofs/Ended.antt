@@ -5,16 +5,18 @@ use Rattle.terms.specs.Refusals.{Told, told, first_of, from_on, or_else}
 use Rattle.terms.specs.declared.refusal.Rule.TheVariants.{LeftBehind, TargetMissed}
 use Rattle.terms.proofs.First.{first_append}
 use Rattle.ground.specs.Meaning.{Meaning}
+use Rattle.sheet.specs.declared.target.Target.{Target}
 use Rattle.plan.specs.Plan.{Action, line, makespan, no_action}
+use Rattle.plan.specs.Rules.{target_of}
 use Rattle.judge.specs.Finding.{find, line_in}
 use Rattle.judge.specs.Judging.{end_tests, left_behind, missed}
-use Rattle.judge.proofs.Chains.{first_found, off, on}
+use Rattle.judge.proofs.Chains.{first_found}
 
 module _ (m : Meaning) (plan : List Action) (targets : ℕ → ℕ) (lines : ℕ) where
   abbrev behind_tests : List (Bool × Told)
   behind_tests = from_on (λ i. (left_behind plan (line plan i), told LeftBehind (line plan i).line 0) ∷ []) 0 (length plan)
 
-  abbrev missed_tests : ℕ → List (Bool × Told)
+  abbrev pub missed_tests : ℕ → List (Bool × Told)
   missed_tests t = from_on (λ c. (missed plan targets t c, told TargetMissed lines c) ∷ []) 0 m.columns
 
   one_by_one : first_of (end_tests m plan targets lines) ≡ or_else (first_of behind_tests) (first_of (missed_tests (makespan plan)))
@@ -30,8 +32,22 @@ module _ (m : Meaning) (plan : List Action) (targets : ℕ → ℕ) (lines : ℕ
       twice None = refl
       twice (Some b) = refl
 
-  pub at_behind : (o : Option ℕ) (l : ℕ) → o ≡ line_in (find (left_behind plan) plan) → o ≡ Some l → first_of (end_tests m plan targets lines) ≡ Some (told LeftBehind l 0)
-  at_behind o l e is = one_by_one ∙ off _ _ (told LeftBehind l 0) (behind_found o e ∙ ap (option_map (λ l. told LeftBehind l 0)) is)
+  -- of what the code finds
+  pub in_turn : (behind : Option ℕ) → behind ≡ line_in (find (left_behind plan) plan) → first_of (end_tests m plan targets lines) ≡ or_else (option_map (λ l. told LeftBehind l 0) behind) (first_of (missed_tests (makespan plan)))
+  in_turn behind is = one_by_one ∙ ap (λ (o : Option Told). or_else o (first_of (missed_tests (makespan plan)))) (behind_found behind is)
 
-  pub past_behind : (o : Option ℕ) (t : ℕ) → o ≡ line_in (find (left_behind plan) plan) → o ≡ None → t ≡ makespan plan → first_of (end_tests m plan targets lines) ≡ first_of (missed_tests t)
-  past_behind o t e is et = one_by_one ∙ on _ _ (behind_found o e ∙ ap (option_map (λ l. told LeftBehind l 0)) is) ∙ ap (λ (u : ℕ). first_of (missed_tests u)) (sym et)
+-- with the columns, the time and the targets as the code has them
+missed_in_turn : (m : Meaning) (plan : List Action) (lines : ℕ) {columns time : ℕ} {ts targets : List Target} → columns ≡ m.columns → time ≡ makespan plan → ts ≡ targets
+    → first_of (missed_tests m plan (target_of targets) lines (makespan plan)) ≡ first_of (from_on (λ c. (missed plan (target_of ts) time c, told TargetMissed lines c) ∷ []) 0 columns)
+missed_in_turn m plan lines {columns} {time} {ts} {targets} width end same =
+    ap (λ (u : ℕ). first_of (missed_tests m plan (target_of targets) lines u)) (sym end)
+    ∙ ap (λ (us : List Target). first_of (missed_tests m plan (target_of us) lines time)) (sym same)
+    ∙ ap (λ (n : ℕ). first_of (from_on (λ c. (missed plan (target_of ts) time c, told TargetMissed lines c) ∷ []) 0 n)) (sym width)
+
+-- both in turn, of what the code finds
+pub both_in_turn : (m : Meaning) (plan : List Action) (lines : ℕ) {columns time : ℕ} {ts targets : List Target} {behind : Option ℕ} (column : Option ℕ) → behind ≡ line_in (find (left_behind plan) plan) → columns ≡ m.columns → time ≡ makespan plan → ts ≡ targets
+    → first_of (from_on (λ c. (missed plan (target_of ts) time c, told TargetMissed lines c) ∷ []) 0 columns) ≡ option_map (told TargetMissed lines) column
+    → first_of (end_tests m plan (target_of targets) lines) ≡ or_else (option_map (λ l. told LeftBehind l 0) behind) (option_map (told TargetMissed lines) column)
+both_in_turn m plan lines {columns} {time} {ts} {targets} {behind} column is width end same found =
+    in_turn m plan (target_of targets) lines behind is
+    ∙ ap (λ (o : Option Told). or_else (option_map (λ l. told LeftBehind l 0) behind) o) (missed_in_turn m plan lines width end same ∙ found)

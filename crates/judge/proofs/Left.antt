@@ -4,6 +4,7 @@ use Rattle.std.proofs.Common.{◌≡◌, ℕ, ◌<◌, ◌≤◌, Bool, true, fa
 use Rattle.std.specs.Option.{option_map}
 use Rattle.std.proofs.lemmas.Bool.{cases_Bool, cases_lt}
 use Rattle.std.proofs.lemmas.Bool.Decides.{Decides-and, Decides-eqb, Decides-like, Decides-ltb, Decides-not}
+use Rattle.terms.proofs.Tests.{decides_leb}
 use Rattle.terms.specs.Refusals.{first_of, from_on, told}
 use Rattle.terms.specs.declared.refusal.Rule.TheVariants.{LeftStanding}
 use Rattle.terms.specs.declared.work.Work.TheVariants.{Leave}
@@ -11,7 +12,7 @@ use Rattle.ground.specs.Meaning.{Meaning}
 use Rattle.plan.specs.Judged.{IsLeftStanding}
 use Rattle.plan.specs.Plan.{Action, carried, end_column, is_leave, line, no_action}
 use Rattle.plan.specs.Rules.{Carried}
-use Rattle.plan.proofs.Searches.{decides_carried, decides_leb, decides_no_leave, decides_some_of}
+use Rattle.plan.proofs.Searches.{decides_carried, decides_no_leave, decides_some_of}
 use Rattle.judge.specs.Finding.{Lowest, Settled, left_between}
 use Rattle.judge.specs.Judging.{latest_start, left_by, left_standing}
 use Rattle.judge.proofs.Chains.{lowest_from, nothing_from}
@@ -62,10 +63,3 @@ module _ (m : Meaning) (above : List Action) (t : ℕ) (so : Settled m above) wh
       lowest_from (left_standing above t) (told LeftStanding number) m.columns 0 c (omega arith) (omega (arith, so.grounded i l))
       ((decides_left above t c).1 (subst (IsLeftStanding above t) e (stood i l p)))
       (λ d _ b. not_so (left_standing above t d) (λ y. let (k, lk, pk, ek) = recent d ((decides_left above t d).0 y) in omega (arith, low.1 k lk pk)))
-
-  -- the same with the times as the code has them
-  pub left_found : (number since : ℕ) (until : ℕ) (o : Option ℕ) → since ≡ latest_start above → until ≡ t → Lowest (left_between above since until) above o
-      → first_of (from_on (λ c. (left_standing above t c, told LeftStanding number c) ∷ []) 0 m.columns) ≡ option_map (told LeftStanding number) o
-  left_found number since until o es et low =
-      left_first number o
-      (subst (λ (x : ℕ). Lowest (left_between above (latest_start above) x) above o) et (subst (λ (x : ℕ). Lowest (left_between above x until) above o) es low))

@@ -1,5 +1,4 @@
-pub mod Steps
-pub mod Single
+pub mod Searches
 pub mod Lowest
 pub mod Chains
 pub mod Left

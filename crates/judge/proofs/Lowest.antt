@@ -1,71 +1,72 @@
--- The lowest end column of those that pass a test, with one action more. Assumes nothing.
-use Rattle.std.proofs.Common.{◌≡◌, ℕ, ◌+◌, ◌<◌, ◌≤◌, min, Bool, true, false, ◌⊎◌, List, [], ◌∷◌, ◌++◌, length, get_or, take, Some, None, Option, sym, refl, ap, ◌∙◌, subst, inl, inr, arith}
-use Rattle.std.proofs.lemmas.List.{get_or_append_left, get_or_push, length_push, map_more}
-use Rattle.std.proofs.lemmas.Bool.{both_ways, cases_lt}
+-- The lowest end column of those that pass a test. Assumes nothing.
+use Rattle.std.proofs.Common.{◌≡◌, ℕ, zero, suc, ◌<◌, ◌≤◌, min, Bool, true, false, cond, ◌⊎◌, List, [], ◌∷◌, map, length, Some, None, Option, sym, refl, ap, ◌∙◌, subst, inl, inr, arith}
+use Rattle.std.specs.List.{filter, fold, reduce}
+use Rattle.std.specs.Option.{option_map}
+use Rattle.std.proofs.lemmas.Bool.{both_ways, cases_Bool, cases_lt}
 use Rattle.plan.specs.declared.action.Action.{Action as Held}
-use Rattle.plan.specs.Plan.{Action, end_column, line, no_action}
+use Rattle.plan.specs.Plan.{Action, end_column, line}
 use Rattle.plan.specs.View.{action_of, plan_of}
 use Rattle.judge.specs.Finding.{Lowest, lower_of}
 
--- what holds of each action and of one more holds of all
-pub each_pushed : (P : Action → Type 0) (xs : List Action) (x : Action) → ((i : ℕ) → i < length xs → P (line xs i)) → P x
-    → (i : ℕ) → i < length (xs ++ (x ∷ [])) → P (line (xs ++ (x ∷ [])) i)
-each_pushed P xs x each here i l = go (cases_lt i (length xs))
-  where
-    go : (i < length xs) ⊎ (length xs ≤ i) → P (line (xs ++ (x ∷ [])) i)
-    go (inl b) = subst P (sym (get_or_append_left xs (x ∷ []) no_action i b)) (each i b)
-    go (inr g) = subst P (sym (get_or_push xs x no_action i (omega (arith, length_push xs x)))) here
+lower_from : (c d : ℕ) (cs : List ℕ) → fold min (min c d) cs ≡ min (fold min d cs) c
+lower_from c d [] = omega arith
+lower_from c d (e ∷ cs) = let swap : min (min c d) e ≡ min c (min d e) = omega arith in ap (λ (n : ℕ). fold min n cs) swap ∙ lower_from c (min d e) cs
 
-pub some_pushed : (P : Action → Type 0) (xs : List Action) (x : Action) → ((i : ℕ) × (i < length xs) × P (line xs i)) → ((i : ℕ) × (i < length (xs ++ (x ∷ []))) × P (line (xs ++ (x ∷ [])) i))
-some_pushed P xs x (i, l, p) = (i, omega (arith, length_push xs x), subst P (sym (get_or_append_left xs (x ∷ []) no_action i l)) p)
-
-pub last_pushed : (P : Action → Type 0) (xs : List Action) (x : Action) → P x → ((i : ℕ) × (i < length (xs ++ (x ∷ []))) × P (line (xs ++ (x ∷ [])) i))
-last_pushed P xs x p = (length xs, omega (arith, length_push xs x), subst P (sym (get_or_push xs x no_action (length xs) refl)) p)
+lower_cons : (c : ℕ) (cs : List ℕ) → reduce min (c ∷ cs) ≡ Some (lower_of (reduce min cs) c)
+lower_cons c [] = refl
+lower_cons c (d ∷ cs) = ap Some (lower_from c d cs)
 
 module _ (p : Action → Bool) where
-  abbrev At : ℕ → Action → Type 0
-  At c a = (p a ≡ true) × (end_column a ≡ c)
-
-  abbrev Above : ℕ → Action → Type 0
-  Above c a = p a ≡ true → c ≤ end_column a
-
-  found : (c : ℕ) (xs : List Action) → ((i : ℕ) × (i < length xs) × At c (line xs i)) → ((i : ℕ) × (i < length xs) × (p (line xs i) ≡ true) × (end_column (line xs i) ≡ c))
-  found c xs (i, l, e) = (i, l, e.0, e.1)
-
-  pub lowest_no : (xs : List Action) (x : Action) (o : Option ℕ) → p x ≡ false → Lowest p xs o → Lowest p (xs ++ (x ∷ [])) o
-  lowest_no xs x None f low = each_pushed (λ a. p a ≡ true → ⊥) xs x low (λ t. both_ways (p x) f t)
-  lowest_no xs x (Some c) f low =
-      let (i, l, t, e) = low.0 in (
-        found c (xs ++ (x ∷ [])) (some_pushed (At c) xs x (i, l, (t, e))),
-        each_pushed (Above c) xs x low.1 (λ t. absurd (both_ways (p x) f t)),
-      )
-
-  pub lowest_yes : (xs : List Action) (x : Action) (o : Option ℕ) → p x ≡ true → Lowest p xs o → Lowest p (xs ++ (x ∷ [])) (Some (lower_of o (end_column x)))
-  lowest_yes xs x None y low = (
-    found (end_column x) (xs ++ (x ∷ [])) (last_pushed (At (end_column x)) xs x (y, refl)),
-    each_pushed (Above (end_column x)) xs x (λ i l t. absurd (low i l t)) (λ _. omega arith),
-  )
-  lowest_yes xs x (Some d) y low = (
-    found (min d (end_column x)) (xs ++ (x ∷ [])) (at (cases_lt d (end_column x))),
-    each_pushed (Above (min d (end_column x))) xs x (λ i l t. omega (arith, low.1 i l t)) (λ _. omega arith),
-  )
+  lowest_no : (a : Action) (rest : List Action) (o : Option ℕ) → p a ≡ false → Lowest p rest o → Lowest p (a ∷ rest) o
+  lowest_no a rest None f low = none
     where
-      at : (d < end_column x) ⊎ (end_column x ≤ d) → (i : ℕ) × (i < length (xs ++ (x ∷ []))) × At (min d (end_column x)) (line (xs ++ (x ∷ [])) i)
-      at (inl b) = let (i, l, t, e) = low.0 in some_pushed (At (min d (end_column x))) xs x (i, l, (t, omega arith))
-      at (inr g) = last_pushed (At (min d (end_column x))) xs x (y, omega arith)
+      none : (i : ℕ) → i < length (a ∷ rest) → p (line (a ∷ rest) i) ≡ true → ⊥
+      none zero l t = both_ways (p a) f t
+      none (suc i) l t = low i (omega arith) t
+  lowest_no a rest (Some c) f low = let (i, l, t, e) = low.0 in ((suc i, omega arith, t, e), above)
+    where
+      above : (i : ℕ) → i < length (a ∷ rest) → p (line (a ∷ rest) i) ≡ true → c ≤ end_column (line (a ∷ rest) i)
+      above zero l t = absurd (both_ways (p a) f t)
+      above (suc i) l t = low.1 i (omega arith) t
 
-  -- one more of a slice
-  pushed : (xs : List Held) (i : ℕ) (x : Held) → i < length xs → x ≡ get_or xs i x → plan_of (take (i + 1) xs) ≡ plan_of (take i xs) ++ (action_of x ∷ [])
-  pushed xs i x l e = map_more action_of xs i x l ∙ ap (λ (y : Held). plan_of (take i xs) ++ (action_of y ∷ [])) (sym e)
+  lowest_yes : (a : Action) (rest : List Action) (o : Option ℕ) → p a ≡ true → Lowest p rest o → Lowest p (a ∷ rest) (Some (lower_of o (end_column a)))
+  lowest_yes a rest None y low = ((0, omega arith, y, refl), above)
+    where
+      above : (i : ℕ) → i < length (a ∷ rest) → p (line (a ∷ rest) i) ≡ true → end_column a ≤ end_column (line (a ∷ rest) i)
+      above zero l t = omega arith
+      above (suc i) l t = absurd (low i (omega arith) t)
+  lowest_yes a rest (Some d) y low = (at (cases_lt d (end_column a)) low.0, above)
+    where
+      at : (d < end_column a) ⊎ (end_column a ≤ d) → ((i : ℕ) × (i < length rest) × (p (line rest i) ≡ true) × (end_column (line rest i) ≡ d))
+          → (i : ℕ) × (i < length (a ∷ rest)) × (p (line (a ∷ rest) i) ≡ true) × (end_column (line (a ∷ rest) i) ≡ min d (end_column a))
+      at (inl b) (i, l, t, e) = (suc i, omega arith, t, omega arith)
+      at (inr g) w = (0, omega arith, y, omega arith)
 
-  pub lower_more : (xs : List Held) (i : ℕ) (x : Held) (o n : Option ℕ) → i < length xs → x ≡ get_or xs i x → p (action_of x) ≡ true
-      → n ≡ Some (lower_of o (end_column (action_of x))) → Lowest p (plan_of (take i xs)) o → Lowest p (plan_of (take (i + 1) xs)) n
-  lower_more xs i x o n l e y is low =
-      subst (λ (ys : List Action). Lowest p ys n) (sym (pushed xs i x l e))
-      (subst (λ (r : Option ℕ). Lowest p (plan_of (take i xs) ++ (action_of x ∷ [])) r) (sym is) (lowest_yes (plan_of (take i xs)) (action_of x) o y low))
+      above : (i : ℕ) → i < length (a ∷ rest) → p (line (a ∷ rest) i) ≡ true → min d (end_column a) ≤ end_column (line (a ∷ rest) i)
+      above zero l t = omega arith
+      above (suc i) l t = omega (arith, low.1 i (omega arith) t)
 
-  pub lowest_same : (xs : List Held) (i : ℕ) (x : Held) (o n : Option ℕ) → i < length xs → x ≡ get_or xs i x → p (action_of x) ≡ false
-      → n ≡ o → Lowest p (plan_of (take i xs)) o → Lowest p (plan_of (take (i + 1) xs)) n
-  lowest_same xs i x o n l e f is low =
-      subst (λ (ys : List Action). Lowest p ys n) (sym (pushed xs i x l e))
-      (subst (λ (r : Option ℕ). Lowest p (plan_of (take i xs) ++ (action_of x ∷ [])) r) (sym is) (lowest_no (plan_of (take i xs)) (action_of x) o f low))
+  -- of the actions of a slice: the end columns of those that pass, where the first of them passes or not
+  abbrev columns : Bool → Held → List Held → List ℕ
+  columns b x xs = map (λ y. end_column (action_of y)) (cond b (x ∷ filter (λ y. p (action_of y)) xs) (filter (λ y. p (action_of y)) xs))
+
+  pub lowest_is : (xs : List Held) → Lowest p (plan_of xs) (reduce min (map (λ x. end_column (action_of x)) (filter (λ x. p (action_of x)) xs)))
+  lowest_is [] = λ i l t. absurd (omega arith)
+  lowest_is (x ∷ xs) = go (cases_Bool (p (action_of x))) (lowest_is xs)
+    where
+      go : (p (action_of x) ≡ true) ⊎ (p (action_of x) ≡ false) → Lowest p (plan_of xs) (reduce min (columns false x xs))
+          → Lowest p (plan_of (x ∷ xs)) (reduce min (columns (p (action_of x)) x xs))
+      go (inl y) low =
+          subst (Lowest p (plan_of (x ∷ xs))) (sym (ap (λ (b : Bool). reduce min (columns b x xs)) y ∙ lower_cons (end_column (action_of x)) (columns false x xs)))
+          (lowest_yes (action_of x) (plan_of xs) (reduce min (columns false x xs)) y low)
+      go (inr f) low =
+          subst (Lowest p (plan_of (x ∷ xs))) (sym (ap (λ (b : Bool). reduce min (columns b x xs)) f))
+          (lowest_no (action_of x) (plan_of xs) (reduce min (columns false x xs)) f low)
+
+  -- as a search for the least column answers
+  pub lowest_found : (xs : List Held) (o : Option ℕ) → option_map (λ n. n) o ≡ reduce min (map (λ x. end_column (action_of x)) (filter (λ x. p (action_of x)) xs)) → Lowest p (plan_of xs) o
+  lowest_found xs o e = subst (Lowest p (plan_of xs)) (sym (same o ∙ e)) (lowest_is xs)
+    where
+      same : (o : Option ℕ) → o ≡ option_map (λ n. n) o
+      same None = refl
+      same (Some n) = refl

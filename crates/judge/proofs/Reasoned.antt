@@ -1,5 +1,5 @@
 -- Each test of judging decides its reason in words, so the first that holds settles a sheet. Assumes nothing.
-use Rattle.std.proofs.Common.{◌≡◌, ℕ, suc, ◌-◌, ◌<◌, ◌≤◌, Bool, true, false, not, eqb, ltb, leb, ◌≢◌, ◌⊎◌, List, [], ◌∷◌, length, take, None, Decides, sym, refl, ap, ◌∙◌, subst, inl, inr, arith}
+use Rattle.std.proofs.Common.{◌≡◌, ℕ, suc, ◌-◌, ◌<◌, ◌≤◌, max, Bool, true, false, not, eqb, ltb, leb, ◌≢◌, ◌⊎◌, List, [], ◌∷◌, length, take, None, Decides, sym, refl, ap, ◌∙◌, subst, inl, inr, arith}
 use Rattle.std.proofs.lemmas.Bool.{cases_Bool, cases_lt, lt-ltb, ltb-true, or_cases, or_left, or_right, true≢false}
 use Rattle.std.proofs.lemmas.Bool.Decides.{Decides-and, Decides-eqb, Decides-like, Decides-ltb, Decides-not, Decides-or}
 use Rattle.terms.specs.Durations.{SiteSettings}
@@ -8,6 +8,7 @@ use Rattle.terms.specs.declared.refusal.Rule.TheVariants.{LeftBehind, LeftStandi
 use Rattle.terms.specs.declared.work.Work.{Work}
 use Rattle.terms.specs.declared.work.Work.TheVariants.{Entry, Leave, Wait, Move, PickUp, Deliver}
 use Rattle.terms.proofs.First.{Decide, decide_append, decide_on, first_settles}
+use Rattle.terms.proofs.Tests.{decides_leb}
 use Rattle.ground.specs.Meaning.{Meaning}
 use Rattle.sheet.specs.View.{Records}
 use Rattle.sheet.specs.declared.record.ActLine.{ActLine}
@@ -15,13 +16,20 @@ use Rattle.plan.specs.Judged.{Collide, InOrder, IsLeftStanding}
 use Rattle.plan.specs.Lines.{written_action, line_tests}
 use Rattle.plan.specs.Plan.{Action, Ends, Touches, carried, carry_after, end_column, ends, height_at, is_entry, is_leave, line, makespan, no_action, shares, some_of}
 use Rattle.plan.specs.Reasons.{line_reasons}
+use Rattle.plan.specs.Times.{Holds}
 use Rattle.plan.specs.Rules.{Follows, Heights, Written, written_plan, target_of, written}
 use Rattle.plan.proofs.Lined.{decides_alike, line_decides}
-use Rattle.plan.proofs.Searches.{decides_carried, decides_ends, decides_leb, decides_no_entry, decides_no_leave, decides_some_of}
+use Rattle.plan.proofs.Searches.{decides_carried, decides_ends, decides_no_entry, decides_no_leave, decides_some_of}
 use Rattle.judge.specs.Judging.{collide, crowd, end_tests, falls, fits, from_somewhere, goes_on_from, heights_fit, judge_tests, latest_start, left_behind, left_standing, missed, overlap, sheet_tests, tests_at}
 use Rattle.judge.specs.Reasons.{IsLeftBehind, end_reasons, judge_reasons, reasons_at, sheet_reasons}
 use Rattle.judge.proofs.Left.{decides_left}
-use Rattle.judge.proofs.Single.{decides_overlap}
+
+-- a time in both spans is at the later start, if anywhere
+pub decides_overlap : (a b : Action) → Decides (overlap a b) ((t : ℕ) × Holds a.start a.end t × Holds b.start b.end t)
+decides_overlap a b = (
+  λ e. let h = ltb-true _ _ e in (max a.start b.start, (omega arith, omega arith), (omega arith, omega arith)),
+  λ w. lt-ltb _ _ (omega arith),
+)
 
 pub decides_order : (above : List Action) (a : Action) → Decides (not (falls above a)) (InOrder above a)
 decides_order above a = (there above, back above)

@@ -1,6 +1,7 @@
 -- With one more action that breaks no rule, actions that broke none stay so. Assumes nothing.
-use Rattle.std.proofs.Common.{◌≡◌, ℕ, ◌-◌, ◌<◌, ◌≢◌, List, [], ◌∷◌, ◌++◌, length, refl, ap, subst, arith}
-use Rattle.std.proofs.lemmas.List.{get_or_push, length_push}
+use Rattle.std.proofs.Common.{◌≡◌, ℕ, ◌-◌, ◌<◌, ◌≤◌, ◌≢◌, ◌⊎◌, List, [], ◌∷◌, ◌++◌, length, sym, refl, ap, subst, inl, inr, arith}
+use Rattle.std.proofs.lemmas.Bool.{cases_lt}
+use Rattle.std.proofs.lemmas.List.{get_or_append_left, get_or_push, length_push}
 use Rattle.terms.specs.Durations.{SiteSettings}
 use Rattle.terms.specs.declared.work.Work.{Work}
 use Rattle.terms.specs.declared.work.Work.TheVariants.{Entry, Leave, Wait, Move, PickUp, Deliver}
@@ -11,7 +12,6 @@ use Rattle.plan.specs.Rules.{Carried}
 use Rattle.plan.proofs.Searches.{decides_carried, stable}
 use Rattle.judge.specs.Finding.{Settled}
 use Rattle.judge.specs.Judging.{latest_start}
-use Rattle.judge.proofs.Lowest.{each_pushed, some_pushed}
 
 within : (w : Work) (f o n : ℕ) → f < n → o < n → end_column_of w f o < n
 within Entry f o n p q = p
@@ -20,6 +20,18 @@ within Wait f o n p q = p
 within Move f o n p q = q
 within PickUp f o n p q = p
 within Deliver f o n p q = p
+
+-- what holds of each action and of one more holds of all
+each_pushed : (P : Action → Type 0) (xs : List Action) (x : Action) → ((i : ℕ) → i < length xs → P (line xs i)) → P x
+    → (i : ℕ) → i < length (xs ++ (x ∷ [])) → P (line (xs ++ (x ∷ [])) i)
+each_pushed P xs x each here i l = go (cases_lt i (length xs))
+  where
+    go : (i < length xs) ⊎ (length xs ≤ i) → P (line (xs ++ (x ∷ [])) i)
+    go (inl b) = subst P (sym (get_or_append_left xs (x ∷ []) no_action i b)) (each i b)
+    go (inr g) = subst P (sym (get_or_push xs x no_action i (omega (arith, length_push xs x)))) here
+
+some_pushed : (P : Action → Type 0) (xs : List Action) (x : Action) → ((i : ℕ) × (i < length xs) × P (line xs i)) → ((i : ℕ) × (i < length (xs ++ (x ∷ []))) × P (line (xs ++ (x ∷ [])) i))
+some_pushed P xs x (i, l, p) = (i, omega (arith, length_push xs x), subst P (sym (get_or_append_left xs (x ∷ []) no_action i l)) p)
 
 pub settled_none : (m : Meaning) → Settled m []
 settled_none m = record { grounded = λ i l. absurd (omega arith); carried_on = λ i l n b. absurd (omega arith) }

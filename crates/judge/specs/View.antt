@@ -1,9 +1,7 @@
 -- What clauses read of an accepted plan. Assumes nothing.
-use Rattle.std.specs.Prelude.{ℕ, List, vec_items}
+use Rattle.std.specs.Prelude.{ℕ, List}
 use Rattle.sheet.specs.declared.target.Target.{Target}
 use Rattle.plan.specs.Plan.{Action}
-use Rattle.plan.specs.View.{plan_of}
-use Rattle.judge.specs.declared.accepted.Accepted.{Accepted}
 
 -- an accepted plan: its actions, its targets and its figures
 pub record Acceptance : Type 0 where
@@ -12,7 +10,3 @@ pub record Acceptance : Type 0 where
   pub makespan : ℕ
   pub costs : ℕ
   pub most : ℕ
-
-abbrev pub acceptance_of : Accepted → Acceptance
-acceptance_of a =
-    record { plan = plan_of (vec_items a.actions); targets = vec_items a.targets; makespan = a.makespan; costs = a.costs; most = a.most }

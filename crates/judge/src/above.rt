@@ -1,48 +1,54 @@
 // What the actions above a line come to.
 ghost use Rattle.std.specs.Prelude.{◌≡◌, count_by};
 ghost use Rattle.plan.specs.Plan.{carried, height_at, runs};
-ghost use Rattle.plan.specs.View.{plan_of};
+ghost use Rattle.plan.specs.View.{action_of, plan_of};
+ghost use Rattle.judge.specs.Judging.{latest_start, left_behind};
 
 use plan::Action;
+use terms::Work;
+
+// When the last action starts, 0 where there is none.
+pub(crate) fn latest_start(actions: &[Action]) -> u32
+    ensures { result ≡ latest_start (plan_of actions.now) }
+{
+    actions.last().map_or(0, |action| action.span.start())
+}
 
 // Whether an action starts at a time from a column.
 pub(crate) fn is_carried_on(actions: &[Action], time: u32, column: u16) -> bool
     ensures { result ≡ carried (plan_of actions.now) time column }
 {
-    for action in actions {
-        if action.starts(time, column) {
-            return true;
-        }
-    }
-    false
+    actions.iter().any(|action| action.starts(time, column))
+}
+
+// Whether the robot of an action, no leave, does nothing after it.
+pub(crate) fn is_left_behind(actions: &[Action], action: &Action) -> bool
+    ensures { result ≡ left_behind (plan_of actions.now) (action_of action.now) }
+{
+    action.work != Work::Leave && !is_carried_on(actions, action.span.end(), action.end_column())
 }
 
 // How many actions run at a time.
 pub(crate) fn running_at(actions: &[Action], time: u32) -> usize
     ensures { result ≡ count_by (runs time) (plan_of actions.now) }
 {
-    let mut running = 0;
-    for action in actions {
-        if action.span.holds(time) {
-            running += 1;
-        }
-    }
-    running
+    actions
+        .iter()
+        .filter(|action| action.span.holds(time))
+        .count()
 }
 
 // The height of a column at a time: blocks delivered less blocks picked up by then.
 pub(crate) fn height_at(actions: &[Action], time: u32, column: u16) -> usize
     ensures { result ≡ height_at (plan_of actions.now) time column }
 {
-    let mut delivered: usize = 0;
-    let mut picked: usize = 0;
-    for action in actions {
-        if action.delivers(time, column) {
-            delivered += 1;
-        }
-        if action.picks(time, column) {
-            picked += 1;
-        }
-    }
+    let delivered = actions
+        .iter()
+        .filter(|action| action.delivers(time, column))
+        .count();
+    let picked = actions
+        .iter()
+        .filter(|action| action.picks(time, column))
+        .count();
     delivered.saturating_sub(picked)
 }

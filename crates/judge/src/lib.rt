@@ -4,6 +4,7 @@
 mod above;
 mod accepted;
 mod accepting;
+mod actions;
 mod end;
 mod figures;
 mod judging;

@@ -3,10 +3,10 @@ use Rattle.std.proofs.Common.{◌≡◌, ℕ, Bool, true, false, not, ◌&&◌, 
 use Rattle.std.proofs.lemmas.Bool.{not_from_false, not-true, true≢false}
 use Rattle.std.proofs.lemmas.Bool.Decides.{Decides-and, Decides-eqb, Decides-like, Decides-ltb, Decides-not}
 use Rattle.terms.specs.Durations.{SiteSettings}
-use Rattle.terms.specs.Refusals.{Settles, first_of}
 use Rattle.terms.specs.declared.work.Work.{Work}
 use Rattle.terms.specs.declared.work.Work.TheVariants.{Entry, Leave, Wait, Move, PickUp, Deliver}
-use Rattle.terms.proofs.First.{Decide, first_settles}
+use Rattle.terms.proofs.First.{Decide}
+use Rattle.terms.proofs.Tests.{decides_is, decides_isnt}
 use Rattle.ground.specs.Meaning.{Meaning}
 use Rattle.sheet.specs.declared.record.ActLine.{ActLine}
 use Rattle.sheet.specs.declared.record.Letter.{Letter}
@@ -20,12 +20,6 @@ use Rattle.plan.proofs.Searches.{stable}
 pub decides_alike : (a b : Bool) → Decides (alike a b) (a ≡ b)
 decides_alike true b = (λ e. sym e, λ e. sym e)
 decides_alike false b = (λ e. sym (not-true b e), λ e. not_from_false b (sym e))
-
-decides_is : (b : Bool) → Decides b (b ≡ true)
-decides_is b = (λ e. e, λ e. e)
-
-decides_isnt : (b : Bool) → Decides (not b) (b ≡ false)
-decides_isnt b = (λ e. not-true b e, λ e. not_from_false b e)
 
 always : Decides true (Unit {0})
 always = (λ _. tt, λ _. refl)
@@ -88,9 +82,6 @@ module _ (m : Meaning) (s : SiteSettings) (l : ActLine) where
       ),
     ),
   )
-
-  pub line_settles : Settles (line_reasons m s l) (first_of (line_tests m s l))
-  line_settles = first_settles (line_tests m s l) (line_reasons m s l) line_decides
 
 -- the rules of a line by itself, where none is broken
 pub record Kept (m : Meaning) (s : SiteSettings) (l : ActLine) : Type 0 where

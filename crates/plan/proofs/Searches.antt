@@ -1,7 +1,8 @@
 -- Each test of an action, and each search for one, decides what it is about. Assumes nothing.
-use Rattle.std.proofs.Common.{◌≡◌, ℕ, zero, suc, ◌<◌, ◌≤◌, Bool, true, false, not, ◌||◌, eqb, ltb, leb, ◌≢◌, List, [], ◌∷◌, length, get_or, Decides, sym, refl, ⊎_elim, arith}
+use Rattle.std.proofs.Common.{◌≡◌, ℕ, zero, suc, ◌<◌, Bool, true, false, not, ◌||◌, eqb, ltb, leb, ◌≢◌, List, [], ◌∷◌, length, get_or, Decides, sym, refl, ⊎_elim, arith}
 use Rattle.std.proofs.lemmas.Bool.{or_left, or_right, or_cases, true≢false}
-use Rattle.std.proofs.lemmas.Bool.Decides.{Decides-and, Decides-eqb, Decides-like, Decides-ltb, nat_tests}
+use Rattle.std.proofs.lemmas.Bool.Decides.{Decides-and, Decides-eqb, Decides-like, Decides-ltb}
+use Rattle.terms.proofs.Tests.{decides_leb}
 use Rattle.terms.specs.declared.work.Work.{Work}
 use Rattle.terms.specs.declared.work.Work.TheVariants.{Entry, Leave, Wait, Move, PickUp, Deliver}
 use Rattle.plan.specs.Plan.{Action, Ends, Runs, Starts, carried, end_column, ends, is_entry, is_leave, no_action, runs, some_of, starts}
@@ -12,9 +13,6 @@ pub stable : {P : Type 0} (b : Bool) → Decides b P → ((P → ⊥) → ⊥) �
 stable true d n = d.0 refl
 stable false d n = absurd (n (λ p. true≢false (sym (d.1 p))))
 
-pub decides_leb : (a b : ℕ) → Decides (leb a b) (a ≤ b)
-decides_leb a b = grind (arith, nat_tests)
-
 yes : {P : Type 0} → P → Decides true P
 yes p = (λ _. p, λ _. refl)
 
@@ -23,19 +21,19 @@ no n = (λ e. absurd (true≢false (sym e)), λ p. absurd (n p))
 
 pub decides_no_entry : (w : Work) → Decides (not (is_entry w)) (w ≢ Entry)
 decides_no_entry Entry = no (λ n. n refl)
-decides_no_entry Leave = yes (λ e. let z : ◌≡◌ {A = ℕ} 0 1 = cc in omega arith)
-decides_no_entry Wait = yes (λ e. let z : ◌≡◌ {A = ℕ} 0 1 = cc in omega arith)
-decides_no_entry Move = yes (λ e. let z : ◌≡◌ {A = ℕ} 0 1 = cc in omega arith)
-decides_no_entry PickUp = yes (λ e. let z : ◌≡◌ {A = ℕ} 0 1 = cc in omega arith)
-decides_no_entry Deliver = yes (λ e. let z : ◌≡◌ {A = ℕ} 0 1 = cc in omega arith)
+decides_no_entry Leave = yes (λ e. cc)
+decides_no_entry Wait = yes (λ e. cc)
+decides_no_entry Move = yes (λ e. cc)
+decides_no_entry PickUp = yes (λ e. cc)
+decides_no_entry Deliver = yes (λ e. cc)
 
 pub decides_no_leave : (w : Work) → Decides (not (is_leave w)) (w ≢ Leave)
-decides_no_leave Entry = yes (λ e. let z : ◌≡◌ {A = ℕ} 0 1 = cc in omega arith)
+decides_no_leave Entry = yes (λ e. cc)
 decides_no_leave Leave = no (λ n. n refl)
-decides_no_leave Wait = yes (λ e. let z : ◌≡◌ {A = ℕ} 0 1 = cc in omega arith)
-decides_no_leave Move = yes (λ e. let z : ◌≡◌ {A = ℕ} 0 1 = cc in omega arith)
-decides_no_leave PickUp = yes (λ e. let z : ◌≡◌ {A = ℕ} 0 1 = cc in omega arith)
-decides_no_leave Deliver = yes (λ e. let z : ◌≡◌ {A = ℕ} 0 1 = cc in omega arith)
+decides_no_leave Wait = yes (λ e. cc)
+decides_no_leave Move = yes (λ e. cc)
+decides_no_leave PickUp = yes (λ e. cc)
+decides_no_leave Deliver = yes (λ e. cc)
 
 pub decides_runs : (t : ℕ) (a : Action) → Decides (runs t a) (Runs a t)
 decides_runs t a =

@@ -1,5 +1,6 @@
 -- Plans: actions, when they run, where they start and end, and how high they leave the columns. Assumes nothing.
 use Rattle.std.specs.Prelude.{◌≡◌, ℕ, ◌-◌, ◌<◌, ◌≤◌, max, Bool, true, false, not, ◌&&◌, ◌||◌, ◌≢◌, ◌⊎◌, List, [], ◌∷◌, count_by, ◌==◌, nat_le, slice_index_or}
+use Rattle.std.specs.List.{list_any}
 use Rattle.terms.specs.declared.work.Work.{Work}
 use Rattle.terms.specs.declared.work.Work.TheVariants.{Entry, Leave, Wait, Move, PickUp, Deliver}
 use Rattle.plan.specs.Times.{held}
@@ -113,8 +114,7 @@ starts t c a = not (is_entry a.work) && (a.start == t && a.from == c)
 
 -- whether some element of a list passes a test
 abbrev pub some_of : {X : Type 0} → (X → Bool) → List X → Bool
-some_of p [] = false
-some_of p (x ∷ xs) = p x || some_of p xs
+some_of p xs = list_any p xs
 
 -- whether some action of the plan starts at the time t from the column c
 abbrev pub carried : List Action → ℕ → ℕ → Bool

@@ -10,6 +10,7 @@ impl Span {
     pub fn new(start: u32, end: u32) -> Option<Span>
         ensures { MatchOption result (end ≤ start) (λ s. (start_of s ≡ start) × (end_of s ≡ end)) }
     {
+        // An `if`, and no `then`: a closure does not know that the test held, and the span is ordered by it.
         if start < end {
             Some(Span { start, end })
         } else {
@@ -28,7 +29,7 @@ impl Span {
     pub fn holds(&self, time: u32) -> bool
         ensures { result ≡ held (start_of self.now) (end_of self.now) time }
     {
-        self.start <= time && time < self.end
+        (self.start..self.end).contains(&time)
     }
 
     // Whether some timestep is in both.

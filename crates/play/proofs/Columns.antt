@@ -3,21 +3,12 @@ use Rattle.std.proofs.Common.{◌≡◌, ℕ, zero, suc, ◌<◌, ◌≤◌, ◌
 use Rattle.std.proofs.lemmas.Bool.{cases_eq}
 use Rattle.gate.specs.declared.column.Column.{Column}
 use Rattle.gate.specs.declared.column.State.{State}
-use Rattle.gate.specs.Column.{column, fresh, ticked}
-use Rattle.gate.specs.Scene.{Columns, at, put, state_at, tick_all}
+use Rattle.gate.specs.Column.{column, fresh}
+use Rattle.gate.specs.Scene.{Columns, at, put, state_at}
 use Rattle.gate.specs.Scene.{height_at as height_in}
 use Rattle.plan.specs.Plan.{Action, Touches}
 use Rattle.play.specs.Play.{left, longest}
 use Rattle.play.specs.Shown.{shown}
-
-pub at_tick : (xs : Columns) (c : ℕ) → at (tick_all xs) c ≡ ticked (at xs c)
-at_tick [] c = refl
-at_tick (x ∷ xs) zero = refl
-at_tick (x ∷ xs) (suc c) = at_tick xs c
-
-pub length_tick : (xs : Columns) → length (tick_all xs) ≡ length xs
-length_tick [] = refl
-length_tick (x ∷ xs) = ap suc (length_tick xs)
 
 pub at_opened : (n c : ℕ) → at (replicate n fresh) c ≡ fresh
 at_opened zero c = refl

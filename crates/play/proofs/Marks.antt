@@ -1,19 +1,19 @@
 -- The marks say what the states say: a column is marked exactly where it is changing. Assumes nothing.
 use Rattle.std.proofs.Common.{◌≡◌, ℕ, ◌-◌, ◌<◌, ◌≤◌, Bool, true, false, cond, not, ◌&&◌, eqb, ltb, ◌≢◌, ◌⊎◌, List, length, get_or, set, sym, ap, ◌∙◌, inl, inr, arith, length-set, get_or-set_other, get_or-set_same}
 use Rattle.std.proofs.lemmas.List.FromFn.{get_or-map-range_with_len, length-map-range_with_len}
-use Rattle.std.proofs.lemmas.List.{get_or_past}
+use Rattle.std.proofs.lemmas.List.{get_or_past, length-map}
 use Rattle.std.proofs.lemmas.Bool.{cases_eq, cases_lt, cond-false, cond-true, eq-eqb, le-ltb, lt-ltb, ne_eqb}
 use Rattle.ground.specs.Meaning.{Meaning}
 use Rattle.gate.specs.declared.call.Call.TheVariants.{Tick}
 use Rattle.gate.specs.declared.column.Column.{Column}
 use Rattle.gate.specs.declared.column.State.{State}
-use Rattle.gate.specs.Column.{changes, fresh}
+use Rattle.gate.specs.Column.{changes, fresh, ticked}
 use Rattle.gate.specs.Gate.{granted_marks}
 use Rattle.gate.specs.Scene.{Columns, mark_of, one_if, state_at, tick_all}
 use Rattle.plan.specs.Plan.{Action, Touches}
 use Rattle.play.specs.Shown.{changes_height}
 use Rattle.play.proofs.Faces.{shown_changes}
-use Rattle.play.proofs.Columns.{Placed, length_tick, touches_or_not}
+use Rattle.play.proofs.Columns.{Placed, touches_or_not}
 
 pub record Marked (xs : Columns) (ms : List ℕ) : Type 0 where
   pub room : length ms ≡ 256
@@ -33,7 +33,7 @@ module _ (m : Meaning) {xs : Columns} {ms : List ℕ} (size : length xs ≡ m.co
     | inl l ↦ cond-true (ltb c m.columns) (mark_of (tick_all xs) c) (get_or ms c 0) (lt-ltb c m.columns l)
     | inr g ↦
         cond-false (ltb c m.columns) (mark_of (tick_all xs) c) (get_or ms c 0) (le-ltb c m.columns g)
-        ∙ mk.tells c ∙ past xs c (omega arith) ∙ sym (past (tick_all xs) c (omega (arith, length_tick xs)))
+        ∙ mk.tells c ∙ past xs c (omega arith) ∙ sym (past (tick_all xs) c (omega (arith, length-map xs ticked)))
   ]
 
   pub marked_tick : Marked (tick_all xs) (granted_marks m xs ms Tick)
@@ -45,7 +45,7 @@ module _ (m : Meaning) {xs : Columns} {ms : List ℕ} (size : length xs ≡ m.co
           | inl l ↦ get_or-map-range_with_len mark_then 0 256 c c 0 l (omega arith) ∙ mark_is c
           | inr g ↦
               get_or_past (granted_marks m xs ms Tick) c 0 (omega (arith, length-map-range_with_len mark_then 0 256))
-              ∙ sym (past (tick_all xs) c (omega (arith, length_tick xs)))
+              ∙ sym (past (tick_all xs) c (omega (arith, length-map xs ticked)))
         ];
       }
 

@@ -1,6 +1,6 @@
 -- Ticks until nothing runs: how many. Assumes nothing.
 use Rattle.std.proofs.Common.{◌≡◌, ℕ, zero, suc, ◌-◌, ◌<◌, ◌≤◌, Bool, true, false, ◌⊎◌, length, Some, None, Option, refl, ap, ◌∙◌, inl, inr, arith}
-use Rattle.std.proofs.lemmas.List.{get_or_past}
+use Rattle.std.proofs.lemmas.List.{get_or_past, length-map}
 use Rattle.std.proofs.lemmas.Bool.{cases_lt, both_ways}
 use Rattle.terms.specs.Refusals.{Told}
 use Rattle.gate.specs.declared.call.Call.{Call}
@@ -8,11 +8,12 @@ use Rattle.gate.specs.declared.call.Call.TheVariants.{Enter, Move, Lay, Lift, Le
 use Rattle.gate.specs.declared.column.Column.{Column}
 use Rattle.gate.specs.declared.column.State.{State}
 use Rattle.gate.specs.declared.column.State.TheVariants.{Free, Standing, Busy}
-use Rattle.gate.specs.Column.{fresh, next, rest, runs, stays}
+use Rattle.gate.specs.Column.{fresh, next, rest, runs, stays, ticked}
 use Rattle.gate.specs.Gate.{grant, granted, refusal, settle, step}
 use Rattle.gate.specs.Scene.{Columns, Scene, put, state_at, tick_all}
 use Rattle.play.specs.Play.{Settles, left, longest, settled, ticks}
-use Rattle.play.proofs.Columns.{at_tick, length_tick, longest_is, put_length}
+use Rattle.gate.proofs.Ticked.{at_tick}
+use Rattle.play.proofs.Columns.{longest_is, put_length}
 
 left_runs : (z : State) → 0 < left z → runs z ≡ true
 left_runs Free l = absurd (omega arith)
@@ -70,7 +71,7 @@ step_length v k = go (refusal v k)
     size (Lay c d) = put_length (put v.columns c _) d _ ∙ put_length v.columns c _
     size (Lift c d) = put_length (put v.columns c _) d _ ∙ put_length v.columns c _
     size (Leave c) = put_length v.columns c _
-    size Tick = length_tick v.columns
+    size Tick = length-map v.columns ticked
     size Recall = refl
 
     go : (o : Option Told) → length (settle o (grant v k) v).columns ≡ length v.columns
@@ -79,7 +80,7 @@ step_length v k = go (refusal v k)
 
 pub ticks_length : (n : ℕ) (v : Scene) → length (ticks n v).columns ≡ length v.columns
 ticks_length zero v = refl
-ticks_length (suc n) v = ticks_length n (step v Tick) ∙ length_tick v.columns
+ticks_length (suc n) v = ticks_length n (step v Tick) ∙ length-map v.columns ticked
 
 pub settles_so : (v : Scene) → length v.columns ≤ 256 → Settles v
 settles_so v few =

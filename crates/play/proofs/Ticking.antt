@@ -1,5 +1,6 @@
 -- A tick keeps the site showing the plan, as long as no action is due. Assumes nothing.
 use Rattle.std.proofs.Common.{◌≡◌, ℕ, suc, ◌+◌, ◌<◌, ◌≤◌, Bool, ◌&&◌, eqb, leb, ◌≢◌, ◌⊎◌, List, length, count_by, sym, refl, ap, ◌∙◌, subst, inl, inr, arith}
+use Rattle.std.proofs.lemmas.List.{length-map}
 use Rattle.std.proofs.lemmas.Bool.{cases_lt}
 use Rattle.std.proofs.lemmas.Bool.Decides.{nat_tests}
 use Rattle.terms.specs.Durations.{SiteSettings}
@@ -8,7 +9,7 @@ use Rattle.ground.specs.Meaning.{Meaning}
 use Rattle.gate.specs.declared.column.Column.{Column}
 use Rattle.gate.specs.declared.column.State.{State}
 use Rattle.gate.specs.declared.column.State.TheVariants.{Free, Standing}
-use Rattle.gate.specs.Column.{column}
+use Rattle.gate.specs.Column.{column, ticked}
 use Rattle.gate.specs.Scene.{Columns, at, state_at, tick_all}
 use Rattle.gate.specs.Scene.{height_at as height_in}
 use Rattle.plan.specs.Plan.{Action, Ends, Runs, Touches, carry_after, delivers, end_column, is_deliver, is_pick_up, line, no_action, picks}
@@ -17,7 +18,7 @@ use Rattle.plan.proofs.Judged.{not_yet}
 use Rattle.play.specs.Shown.{Holder, NoneStarts, shown}
 use Rattle.play.specs.Shown.Holder.{by_running, by_ended}
 use Rattle.play.proofs.Faces.{Fits, delivers_same, last_height, last_level, later, never_free, picks_same, rest_either, rest_end, rest_of, shown_last, shown_more}
-use Rattle.play.proofs.Columns.{at_tick, length_tick}
+use Rattle.gate.proofs.Ticked.{at_tick}
 use Rattle.play.proofs.Counts.{count_but_one}
 use Rattle.play.proofs.Plans.{Obeys, ended_ran, ended_touches, goes_on, longer, two}
 use Rattle.play.proofs.Site.{Shows}
@@ -144,7 +145,7 @@ module _ {m : Meaning} {s : SiteSettings} {plan : List Action} {targets : ℕ �
   pub shows_tick : Shows m plan k (suc t) (tick_all xs)
   shows_tick =
       record {
-        size = length_tick xs ∙ sh.size;
+        size = length-map xs ticked ∙ sh.size;
         so_far = sh.so_far;
         begun = λ i l. omega (arith, sh.begun i l);
         coming = λ i g l. omega (arith, more i g l);

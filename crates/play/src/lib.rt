@@ -3,6 +3,5 @@
 
 mod player;
 mod spent;
-mod stands;
 
 pub use spent::play;

@@ -1,50 +1,34 @@
 // Plays a list of actions on a site: each call at its time, until one is refused.
 ghost use Rattle.std.specs.Prelude.{◌≡◌, ◌-◌, nat_lt};
 ghost use Rattle.terms.specs.Refusals.{refusal_in, told_of};
-ghost use Rattle.gate.specs.Column.{runs};
 ghost use Rattle.gate.specs.View.{scene_of};
 ghost use Rattle.plan.specs.View.{action_of, plan_of};
 ghost use Rattle.play.specs.Play.{call_of, called, is_fresh, longest, on_line, play, play_on, refusal_of, settled, ticks};
 
-use gate::{Site, State};
+use gate::Site;
 use ground::Ground;
 use plan::Action;
 use terms::{Refusal, Rule, Work};
 
 // Ticks from one time until another.
 fn wait<G: Ground>(site: &mut Site<G>, time: u32, until: u32)
-    ensures { scene_of G.Ground.meaning site.new ≡ ticks (until - time) (scene_of G.Ground.meaning site.old) }
+    ensures { scene_of site.new ≡ ticks (until - time) (scene_of site.old) }
 {
     for _tick in time..until {
         site.tick();
     }
 }
 
-// Whether an action runs at a column in that state.
-fn is_busy(state: State) -> bool
-    ensures { result ≡ runs state }
-{
-    match state {
-        State::Busy { .. } => true,
-        State::Free | State::Standing { .. } => false,
-    }
-}
-
-// Whether an action runs at some column; no ground has more than 256.
+// Whether an action runs at some column; no ground has more than 256. Over all that there may be, since `settled` is stated so.
 fn is_running<G: Ground>(site: &Site<G>) -> bool
-    ensures { result ≡ nat_lt 0 (longest (scene_of G.Ground.meaning site.now).columns 256) }
+    ensures { result ≡ nat_lt 0 (longest (scene_of site.now).columns 256) }
 {
-    for column in 0..256 {
-        if is_busy(site.look(column).state) {
-            return true;
-        }
-    }
-    false
+    (0..256).any(|column| site.look(column).state.runs())
 }
 
 // Ticks until nothing runs.
 fn settle<G: Ground>(site: &mut Site<G>)
-    ensures { scene_of G.Ground.meaning site.new ≡ settled (scene_of G.Ground.meaning site.old) }
+    ensures { scene_of site.new ≡ settled (scene_of site.old) }
 {
     while is_running(site) {
         site.tick();
@@ -53,8 +37,8 @@ fn settle<G: Ground>(site: &mut Site<G>)
 
 // Makes the call that an action names; a wait names none.
 fn call<G: Ground>(site: &mut Site<G>, action: &Action) -> Result<(), Refusal>
-    ensures answer { refusal_in result ≡ refusal_of (scene_of G.Ground.meaning site.old) (call_of (action_of action.now)) }
-    ensures after { scene_of G.Ground.meaning site.new ≡ called (scene_of G.Ground.meaning site.old) (call_of (action_of action.now)) }
+    ensures answer { refusal_in result ≡ refusal_of (scene_of site.old) (call_of (action_of action.now)) }
+    ensures after { scene_of site.new ≡ called (scene_of site.old) (call_of (action_of action.now)) }
 {
     let (from, to) = (action.from.column, action.to.column);
     match action.work {
@@ -71,29 +55,27 @@ fn call<G: Ground>(site: &mut Site<G>, action: &Action) -> Result<(), Refusal>
 fn on_line(refusal: Refusal, line: u16) -> Refusal
     ensures { told_of result ≡ on_line line (told_of refusal) }
 {
-    Refusal::at(refusal.rule, line, refusal.detail)
+    Refusal { line, ..refusal }
 }
 
 // Whether no robot is on the site, and every height is 0.
 fn is_fresh<G: Ground>(site: &Site<G>) -> bool
-    ensures { result ≡ is_fresh (scene_of G.Ground.meaning site.now) }
+    ensures { result ≡ is_fresh (scene_of site.now) }
 {
     site.robots() == 0 && site.blocks_standing() == 0
 }
 
 // Plays actions, the time counted from where play began; what is refused is told of its line, and nothing is done after it.
 fn play_all<G: Ground>(site: &mut Site<G>, actions: &[Action]) -> Result<(), Refusal>
-    ensures answer { refusal_in result ≡ (play (plan_of actions.now) 0 (scene_of G.Ground.meaning site.old)).answer }
-    ensures after { scene_of G.Ground.meaning site.new ≡ (play (plan_of actions.now) 0 (scene_of G.Ground.meaning site.old)).site }
+    ensures answer { refusal_in result ≡ (play (plan_of actions.now) 0 (scene_of site.old)).answer }
+    ensures after { scene_of site.new ≡ (play (plan_of actions.now) 0 (scene_of site.old)).site }
 {
     let mut time = 0;
     for action in actions {
         let start = action.span.start();
         wait(site, time, start);
         time = start;
-        if let Err(refusal) = call(site, action) {
-            return Err(on_line(refusal, action.line));
-        }
+        call(site, action).map_err(|refusal| on_line(refusal, action.line))?;
     }
     settle(site);
     Ok(())
@@ -101,11 +83,11 @@ fn play_all<G: Ground>(site: &mut Site<G>, actions: &[Action]) -> Result<(), Ref
 
 // Plays actions on a fresh site; any other stays as it is.
 pub(crate) fn play_actions<G: Ground>(site: &mut Site<G>, actions: &[Action]) -> Result<(), Refusal>
-    ensures answer { refusal_in result ≡ (play_on (plan_of actions.now) (scene_of G.Ground.meaning site.old)).answer }
-    ensures after { scene_of G.Ground.meaning site.new ≡ (play_on (plan_of actions.now) (scene_of G.Ground.meaning site.old)).site }
+    ensures answer { refusal_in result ≡ (play_on (plan_of actions.now) (scene_of site.old)).answer }
+    ensures after { scene_of site.new ≡ (play_on (plan_of actions.now) (scene_of site.old)).site }
 {
     if !is_fresh(site) {
-        return Err(Refusal::plain(Rule::NotFresh));
+        return Err(Rule::NotFresh.into());
     }
     play_all(site, actions)
 }

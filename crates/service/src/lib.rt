@@ -2,11 +2,10 @@
 #![tactic(auto)]
 
 mod deed;
+mod doing;
 mod performing;
-mod stage;
 #[cfg(test)]
 mod tests;
 
 pub use deed::Deed;
-pub use performing::perform;
-pub use stage::Stage;
+pub use performing::{Stage, perform};

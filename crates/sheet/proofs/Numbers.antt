@@ -1,5 +1,5 @@
 -- A field is read as n exactly where it shows n: spaces, and then n in decimal. Assumes nothing.
-use Rattle.std.proofs.Common.{◌≡◌, ℕ, zero, suc, ◌+◌, ◌-◌, ◌*◌, ◌^◌, ◌<◌, ◌≤◌, Bool, true, false, cond, ◌&&◌, eqb, leb, List, [], ◌∷◌, ◌++◌, length, get_or, replicate, Some, None, decimal, sym, refl, ap, ◌∙◌, ⊎_elim, arith, rules}
+use Rattle.std.proofs.Common.{◌≡◌, ℕ, zero, suc, ◌+◌, ◌-◌, ◌*◌, ◌^◌, ◌<◌, ◌≤◌, Bool, true, false, cond, ◌&&◌, eqb, leb, List, [], ◌∷◌, ◌++◌, length, get_or, replicate, Some, None, Option, decimal, sym, refl, ap, ◌∙◌, ⊎_elim, arith, rules}
 use Rattle.std.specs.Str.{all_ascii_digits}
 use Rattle.std.proofs.lemmas.Fmt.{decimal_digit, decimal_nonempty, decimal-digits_value, digits_decimal, first_decimal, digits_value-decimal}
 use Rattle.std.proofs.lemmas.Str.Parse.{IsNumeralModel, numerals_by_fold, tells_all_ascii_digits, digits_value_short}
@@ -29,17 +29,17 @@ valued ds n e = go (all_ascii_digits ds) (sym (digits_all 0 ds) ∙ e)
   where
     go : (b : Bool) → cond b (Some (read_on 0 ds)) None ≡ Some n → (b ≡ true) × (read_on 0 ds ≡ n)
     go true h = (refl, cc)
-    go false h = let z : ◌≡◌ {A = ℕ} 0 1 = cc in absurd (omega arith)
+    go false h = cc
 
 -- a plain number: some digits, and no 0 before another
 parts : (ds : List ℕ) (n : ℕ) → plain ds ≡ Some n → (digits 0 ds ≡ Some n) × (0 < length ds) × (get_or ds 0 0 ≡ 48 → length ds ≡ 1)
-parts [] n e = let z : ◌≡◌ {A = ℕ} 0 1 = cc in absurd (omega arith)
+parts [] n e = cc
 parts (b ∷ []) n e = (e, omega arith, λ _. refl)
 parts (b ∷ c ∷ bs) n e = go (eqb b 48) refl e
   where
     go : (t : Bool) → t ≡ eqb b 48 → cond t None (digits 0 (b ∷ c ∷ bs)) ≡ Some n → (digits 0 (b ∷ c ∷ bs) ≡ Some n) × (0 < length (b ∷ c ∷ bs)) × (b ≡ 48 → length (b ∷ c ∷ bs) ≡ 1)
-    go true et h = let z : ◌≡◌ {A = ℕ} 0 1 = cc in absurd (omega arith)
-    go false et h = (h, omega arith, λ q. let w = eq-eqb b 48 q in let z : ◌≡◌ {A = ℕ} 0 1 = cc in absurd (omega arith))
+    go true et h = cc
+    go false et h = (h, omega arith, λ q. let w = eq-eqb b 48 q in cc)
 
 joins : (ds : List ℕ) → 0 < length ds → (get_or ds 0 0 ≡ 48 → length ds ≡ 1) → plain ds ≡ digits 0 ds
 joins [] h f = absurd (omega arith)
@@ -76,11 +76,11 @@ first_digit n small =
     (λ more. let f = first_decimal n (omega arith) (omega arith) in (omega arith, λ e. absurd (omega arith)))
     (cases_lt n 10)
 
-pub number_shows : (bs : List ℕ) (n : ℕ) → number_in bs ≡ Some n → Shows bs n
+number_shows : (bs : List ℕ) (n : ℕ) → number_in bs ≡ Some n → Shows bs n
 number_shows bs n e = go (leb (length bs) 9) refl e
   where
     go : (t : Bool) → t ≡ leb (length bs) 9 → cond t (plain (unspaced bs)) None ≡ Some n → Shows bs n
-    go false et h = let z : ◌≡◌ {A = ℕ} 0 1 = cc in absurd (omega arith)
+    go false et h = cc
     go true et h =
         let p = parts (unspaced bs) n h in
         let v = valued (unspaced bs) n p.0 in
@@ -91,7 +91,7 @@ number_shows bs n e = go (leb (length bs) 9) refl e
         let s = split bs in
         record { narrow = narrow; small = omega (arith, v.1); spaces = s.0; text = s.1 ∙ ap (λ (t : List ℕ). replicate s.0 32 ++ t) (sym d ∙ ap decimal v.1) }
 
-pub shows_number : (bs : List ℕ) (n : ℕ) → Shows bs n → number_in bs ≡ Some n
+shows_number : (bs : List ℕ) (n : ℕ) → Shows bs n → number_in bs ≡ Some n
 shows_number bs n w =
     let small : n < 10 ^ 9 = w.small in
     let f = first_digit n small in
@@ -100,3 +100,7 @@ shows_number bs n w =
     digits_all 0 (decimal n) ∙ ap (λ (t : Bool). cond t (Some (read_on 0 (decimal n))) None) (digits_decimal own n (omega arith)) ∙ ap Some (digits_value-decimal own n (omega arith)) in
     ap (λ (t : Bool). cond t (plain (unspaced bs)) None) (le-leb (length bs) 9 w.narrow)
     ∙ ap plain e ∙ joins (decimal n) (decimal_nonempty n (omega arith)) f.1 ∙ all
+
+-- so does what is read of a field, whether a number or not
+pub numbers_show : (bs : List ℕ) (r : Option ℕ) → r ≡ number_in bs → (n : ℕ) → (r ≡ Some n → Shows bs n) × (Shows bs n → r ≡ Some n)
+numbers_show bs r e n = (λ h. number_shows bs n (sym e ∙ h), λ w. e ∙ shows_number bs n w)

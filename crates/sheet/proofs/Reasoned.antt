@@ -1,12 +1,13 @@
 -- Each test of reading decides its reason in words, so the first that holds settles a sheet. Assumes nothing.
-use Rattle.std.proofs.Common.{◌≡◌, ℕ, suc, ◌%◌, ◌<◌, ◌≤◌, Bool, true, false, cond, not, ◌&&◌, eqb, ltb, leb, ◌⊎◌, List, ◌∷◌, length, get_or, Some, None, Decides, Option, sym, refl, ap, ◌∙◌, subst, inl, inr, ⊎_elim, arith}
-use Rattle.std.proofs.lemmas.Bool.Decides.{Decides-and, Decides-eqb, Decides-like, Decides-ltb, Decides-not, Decides-or, nat_tests}
+use Rattle.std.proofs.Common.{◌≡◌, ℕ, suc, ◌%◌, ◌<◌, ◌≤◌, Bool, true, false, cond, not, ◌&&◌, eqb, ltb, leb, ◌⊎◌, List, ◌∷◌, length, get_or, Some, None, Decides, Option, sym, refl, ap, ◌∙◌, subst, inl, inr, ⊎_elim}
+use Rattle.std.proofs.lemmas.Bool.Decides.{Decides-and, Decides-eqb, Decides-like, Decides-ltb, Decides-not, Decides-or}
 use Rattle.std.proofs.ByRecursion.{Decides-by_and}
 use Rattle.std.proofs.lemmas.Bool.{and_from, and_left, and_right, cases_Bool, eq-eqb, eqb-true, ne_eqb, not_from_false, not-true, true≢false}
 use Rattle.terms.specs.Durations.{SiteSettings}
 use Rattle.terms.specs.Refusals.{Settles, from_on, told}
 use Rattle.terms.specs.declared.refusal.Rule.TheVariants.{SheetShape}
 use Rattle.terms.proofs.First.{Decide, decide_on, decides_some, first_settles}
+use Rattle.terms.proofs.Tests.{decides_leb}
 use Rattle.ground.specs.Meaning.{Meaning}
 use Rattle.sheet.specs.declared.record.Record.{Record}
 use Rattle.sheet.specs.declared.record.Record.TheVariants.{Goal, Act, Note, End}
@@ -14,9 +15,6 @@ use Rattle.sheet.specs.declared.target.Target.{Target}
 use Rattle.sheet.specs.Lines.{Word, bad_field, bad_shape, fields, misshapen, plain_byte, printable, word}
 use Rattle.sheet.specs.Reading.{acts, bad_sheet, end_misplaced, goal_fits, goal_misplaced, line_at, lines_in, reading_refusal, rises, shown_at, targets, tests_at}
 use Rattle.sheet.specs.Reasons.{BadSheet, BadShape, IsEndMisplaced, GoalFits, IsGoalMisplaced, Printable, reading_reasons, reasons_at}
-
-decides_leb : (a b : ℕ) → Decides (leb a b) (a ≤ b)
-decides_leb a b = grind (arith, nat_tests)
 
 sheet_decides : (sheet : List ℕ) → Decides (bad_sheet sheet) (BadSheet sheet)
 sheet_decides sheet =
@@ -37,13 +35,13 @@ printable_decides bs =
 -- a line with another word than a note's, and a newline, has no bad shape
 fine : (l : List ℕ) (w : Word) → (w ≡ Word.note → ⊥) → get_or l 34 0 ≡ 10 → word l ≡ Some w → BadShape l → ⊥
 fine l w other nl e (BadShape.no_newline f) = f nl
-fine l w other nl e (BadShape.no_word f) = let z : ◌≡◌ {A = ℕ} 0 1 = cc in omega arith
+fine l w other nl e (BadShape.no_word f) = cc
 fine l w other nl e (BadShape.unprintable f q) = other (cc)
 
 -- nor has a note that can be printed
 plain_note : (l : List ℕ) → get_or l 34 0 ≡ 10 → word l ≡ Some Word.note → Printable (fields l) → BadShape l → ⊥
 plain_note l nl e p (BadShape.no_newline f) = f nl
-plain_note l nl e p (BadShape.no_word f) = let z : ◌≡◌ {A = ℕ} 0 1 = cc in omega arith
+plain_note l nl e p (BadShape.no_word f) = cc
 plain_note l nl e p (BadShape.unprintable f q) = q p
 
 never : (l : List ℕ) → (BadShape l → ⊥) → Decides false (BadShape l)
@@ -59,10 +57,10 @@ shape_decides l = go (eqb (get_or l 34 0) 10) (word l) refl refl
     go : (b : Bool) (w : Option Word) → b ≡ eqb (get_or l 34 0) 10 → w ≡ word l → Decides (misshapen (cond b w None) (fields l)) (BadShape l)
     go false w eb ew = (λ _. BadShape.no_newline (λ h. true≢false (sym ((Decides-eqb (get_or l 34 0) 10).1 h) ∙ sym eb)), λ _. refl)
     go true None eb ew = (λ _. BadShape.no_word (sym ew), λ _. refl)
-    go true (Some Word.goal) eb ew = never l (fine l Word.goal (λ e. let z : ◌≡◌ {A = ℕ} 0 1 = cc in omega arith) (eqb-true _ _ (sym eb)) (sym ew))
-    go true (Some Word.act) eb ew = never l (fine l Word.act (λ e. let z : ◌≡◌ {A = ℕ} 0 1 = cc in omega arith) (eqb-true _ _ (sym eb)) (sym ew))
+    go true (Some Word.goal) eb ew = never l (fine l Word.goal (λ e. cc) (eqb-true _ _ (sym eb)) (sym ew))
+    go true (Some Word.act) eb ew = never l (fine l Word.act (λ e. cc) (eqb-true _ _ (sym eb)) (sym ew))
     go true (Some Word.note) eb ew = note (printable (fields l)) refl (eqb-true _ _ (sym eb)) (sym ew)
-    go true (Some Word.end) eb ew = never l (fine l Word.end (λ e. let z : ◌≡◌ {A = ℕ} 0 1 = cc in omega arith) (eqb-true _ _ (sym eb)) (sym ew))
+    go true (Some Word.end) eb ew = never l (fine l Word.end (λ e. cc) (eqb-true _ _ (sym eb)) (sym ew))
 
 goal_decides : (m : Meaning) (s : SiteSettings) (ts : List Target) (n c h : ℕ) → Decides (goal_fits m s ts n c h) (GoalFits m s ts n c h)
 goal_decides m s ts n c h =
@@ -82,7 +80,7 @@ no_goal m s ts n r none = (λ e. absurd (true≢false (sym e)), back)
     back (IsGoalMisplaced.goal_misplaced c h e f) = absurd (none c h e)
 
 misplaced_decides : (m : Meaning) (s : SiteSettings) (ts : List Target) (n : ℕ) (r : Option Record) → Decides (goal_misplaced m s ts n r) (IsGoalMisplaced m s ts n r)
-misplaced_decides m s ts n None = no_goal m s ts n None (λ c h e. let z : ◌≡◌ {A = ℕ} 0 1 = cc in omega arith)
+misplaced_decides m s ts n None = no_goal m s ts n None (λ c h e. cc)
 misplaced_decides m s ts n (Some (Goal c h)) =
     let d = Decides-not (goal_fits m s ts n c h) (goal_decides m s ts n c h) in
     (λ e. IsGoalMisplaced.goal_misplaced c h refl (d.0 e), λ p. d.1 (back p))
@@ -92,9 +90,9 @@ misplaced_decides m s ts n (Some (Goal c h)) =
         let ec : c ≡ c' = cc in
         let eh : h ≡ h' = cc in
         f (subst (λ x. GoalFits m s ts n x h') ec (subst (λ y. GoalFits m s ts n c y) eh g))
-misplaced_decides m s ts n (Some (Act a)) = no_goal m s ts n (Some (Act a)) (λ c h e. let z : ◌≡◌ {A = ℕ} 0 1 = cc in omega arith)
-misplaced_decides m s ts n (Some Note) = no_goal m s ts n (Some Note) (λ c h e. let z : ◌≡◌ {A = ℕ} 0 1 = cc in omega arith)
-misplaced_decides m s ts n (Some (End k)) = no_goal m s ts n (Some (End k)) (λ c h e. let z : ◌≡◌ {A = ℕ} 0 1 = cc in omega arith)
+misplaced_decides m s ts n (Some (Act a)) = no_goal m s ts n (Some (Act a)) (λ c h e. cc)
+misplaced_decides m s ts n (Some Note) = no_goal m s ts n (Some Note) (λ c h e. cc)
+misplaced_decides m s ts n (Some (End k)) = no_goal m s ts n (Some (End k)) (λ c h e. cc)
 
 -- a line that is no END is misplaced just where it is the last
 no_end_decides : (b : Bool) (P : Type 0) (n : ℕ) (r : Option Record) → ((k : ℕ) → r ≡ Some (End k) → ⊥) → Decides b P → Decides b (IsEndMisplaced P n r)
@@ -121,10 +119,10 @@ end_decides b P n k d = (there (cases_Bool b), back)
         not_yes (inr g) = g
 
 ends_decides : (b : Bool) (P : Type 0) (n : ℕ) (r : Option Record) → Decides b P → Decides (end_misplaced b n r) (IsEndMisplaced P n r)
-ends_decides b P n None d = no_end_decides b P n None (λ k e. let z : ◌≡◌ {A = ℕ} 0 1 = cc in omega arith) d
-ends_decides b P n (Some (Goal c h)) d = no_end_decides b P n (Some (Goal c h)) (λ k e. let z : ◌≡◌ {A = ℕ} 0 1 = cc in omega arith) d
-ends_decides b P n (Some (Act a)) d = no_end_decides b P n (Some (Act a)) (λ k e. let z : ◌≡◌ {A = ℕ} 0 1 = cc in omega arith) d
-ends_decides b P n (Some Note) d = no_end_decides b P n (Some Note) (λ k e. let z : ◌≡◌ {A = ℕ} 0 1 = cc in omega arith) d
+ends_decides b P n None d = no_end_decides b P n None (λ k e. cc) d
+ends_decides b P n (Some (Goal c h)) d = no_end_decides b P n (Some (Goal c h)) (λ k e. cc) d
+ends_decides b P n (Some (Act a)) d = no_end_decides b P n (Some (Act a)) (λ k e. cc) d
+ends_decides b P n (Some Note) d = no_end_decides b P n (Some Note) (λ k e. cc) d
 ends_decides b P n (Some (End k)) d = end_decides b P n k d
 
 line_decides : (m : Meaning) (s : SiteSettings) (sheet : List ℕ) (i : ℕ) → Decide (tests_at m s sheet i) (reasons_at m s sheet i)

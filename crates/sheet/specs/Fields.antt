@@ -1,5 +1,7 @@
 -- Fields: decimal numbers, letters and marks, justified to the right and filled with spaces. Assumes nothing.
-use Rattle.std.specs.Prelude.{◌≡◌, ℕ, ◌+◌, ◌-◌, ◌*◌, ◌^◌, ◌<◌, ◌≤◌, Bool, true, false, cond, ◌&&◌, List, [], ◌∷◌, ◌++◌, length, replicate, Some, None, decimal, Option, ◌==◌, nat_le}
+use Rattle.std.specs.Prelude.{◌≡◌, ℕ, ◌+◌, ◌-◌, ◌*◌, ◌^◌, ◌<◌, ◌≤◌, Bool, true, false, cond, List, [], ◌∷◌, ◌++◌, length, replicate, Some, None, decimal, Option, ◌==◌, nat_le, option_and_then}
+use Rattle.std.specs.List.{list_all}
+use Rattle.std.specs.Option.{option_map}
 use Rattle.sheet.specs.declared.record.Letter.{Letter}
 use Rattle.sheet.specs.declared.record.Letter.TheVariants.{M, P, D}
 use Rattle.sheet.specs.declared.record.Place.{Place}
@@ -47,16 +49,14 @@ abbrev pub letter : ℕ → Option Letter
 letter b = cond (b == 77) (Some M) (cond (b == 80) (Some P) (cond (b == 68) (Some D) None))
 
 abbrev pub by_one : {X : Type 0} → (ℕ → Option X) → Option ℕ → Option X
-by_one f None = None
-by_one f (Some b) = f b
+by_one f o = option_and_then f o
 
 abbrev pub letter_in : List ℕ → Option Letter
 letter_in bs = by_one letter (lone (unspaced bs))
 
 -- a column or a height: a number, or the mark (83 for S, 69 for E) that stands for outside
 abbrev pub numbered : Option ℕ → Option Place
-numbered None = None
-numbered (Some n) = Some (At n)
+numbered o = option_map At o
 
 abbrev pub is : ℕ → Option ℕ → Bool
 is mark None = false
@@ -71,5 +71,4 @@ flag None = None
 flag (Some n) = cond (n == 0) (Some false) (cond (n == 1) (Some true) None)
 
 abbrev pub blank : List ℕ → Bool
-blank [] = true
-blank (b ∷ bs) = b == 32 && blank bs
+blank bs = list_all (λ b. b == 32) bs

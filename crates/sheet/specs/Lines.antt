@@ -1,5 +1,6 @@
 -- A line of 35 bytes: its word, what it shows, and whether it is well formed. Assumes nothing.
-use Rattle.std.specs.Prelude.{ℕ, Bool, true, false, cond, not, ◌&&◌, List, [], ◌∷◌, Some, None, Ok, Option, Result, ◌==◌, nat_le, slice_index}
+use Rattle.std.specs.Prelude.{ℕ, Bool, true, false, cond, not, ◌&&◌, List, Some, None, Ok, Option, Result, ◌==◌, nat_le, option_and_then, slice_index}
+use Rattle.std.specs.List.{list_all}
 use Rattle.std.specs.Result.{result_ok, result_err}
 use Rattle.sheet.specs.declared.record.Record.{Record}
 use Rattle.sheet.specs.declared.record.Record.TheVariants.{Note}
@@ -33,8 +34,7 @@ abbrev pub plain_byte : ℕ → Bool
 plain_byte b = nat_le 32 b && nat_le b 126
 
 abbrev pub printable : List ℕ → Bool
-printable [] = true
-printable (b ∷ bs) = plain_byte b && printable bs
+printable bs = list_all plain_byte bs
 
 -- a line with no word, or a note with a byte that cannot be printed
 abbrev pub misshapen : Option Word → List ℕ → Bool
@@ -53,12 +53,10 @@ shown line (Some Word.note) fs = Some (Ok Note)
 shown line (Some Word.end) fs = Some (end_in fs)
 
 abbrev pub unread : Option (Result Record ℕ) → Option ℕ
-unread None = None
-unread (Some r) = result_err r
+unread o = option_and_then result_err o
 
 abbrev pub read : Option (Result Record ℕ) → Option Record
-read None = None
-read (Some r) = result_ok r
+read o = option_and_then result_ok o
 
 abbrev pub bad_shape : List ℕ → Bool
 bad_shape l = misshapen (word_in l) (fields l)

@@ -1,6 +1,6 @@
 // The fields of a line: numbers, letters and marks, justified to the right and filled with spaces.
 ghost use Rattle.std.specs.Prelude.{◌≡◌, ℕ, ◌-◌, ◌<◌, ◌≤◌, true, false, length, Some, MatchOption};
-ghost use Rattle.sheet.specs.Fields.{Shows, digit, digits, unspaced, number_in, letter, letter_in, place_in, flag, blank, lone, is, numbered};
+ghost use Rattle.sheet.specs.Fields.{Shows, digit, digits, unspaced, number_in, letter_in, place_in, flag, blank, lone};
 
 use crate::record::{Letter, Place};
 
@@ -8,23 +8,17 @@ use crate::record::{Letter, Place};
 fn digit_of(byte: u8) -> Option<u32>
     ensures { MatchOption result (digit byte ≡ false) (λ d. (digit byte ≡ true) × (d ≡ byte - 48) × (d < 10)) }
 {
-    match byte {
-        b'0'..=b'9' => Some(u32::from(byte - b'0')),
-        _ => None,
-    }
+    char::from(byte).to_digit(10)
 }
 
-// The number that digits alone spell.
+// The number that digits alone spell. A `for`, since the closure of a fold would know no bound on the number so far.
 fn digits_of(bytes: &[u8]) -> Option<u32>
     requires { length bytes.now ≤ 9 }
     ensures { result ≡ digits 0 bytes.now }
 {
     let mut value = 0;
     for b in bytes {
-        let Some(d) = digit_of(*b) else {
-            return None;
-        };
-        value = value * 10 + d;
+        value = value * 10 + digit_of(*b)?;
     }
     Some(value)
 }
@@ -41,46 +35,26 @@ fn trimmed(field: &[u8]) -> &[u8]
     rest
 }
 
-// The number in a field of at most nine bytes: at least one digit, and no leading zero.
-fn justified(field: &[u8]) -> Option<u32>
-    ensures { result ≡ number_in field.now }
-{
-    if field.len() > 9 {
-        return None;
-    }
-    let rest = trimmed(field);
-    match rest {
-        [] | [b'0', _, ..] => None,
-        _ => digits_of(rest),
-    }
-}
-
-// The number that a field shows: spaces, and then its decimal digits, at most nine bytes in all.
+// The number that a field shows: spaces, and then its decimal digits with no leading zero, at most nine bytes in all.
 pub fn number(field: &[u8]) -> Option<u32>
     ensures value { result ≡ number_in field.now }
     ensures words { (n : ℕ) → (result ≡ Some n → Shows field.now n) × (Shows field.now n → result ≡ Some n) }
 {
-    justified(field)
+    if field.len() > 9 {
+        return None;
+    }
+    match trimmed(field) {
+        [] | [b'0', _, ..] => None,
+        digits => digits_of(digits),
+    }
 }
 
 // The byte of a field that has just one.
 fn lone_byte(field: &[u8]) -> Option<u8>
     ensures { result ≡ lone (unspaced field.now) }
 {
-    let [byte] = trimmed(field) else {
-        return None;
-    };
-    Some(*byte)
-}
-
-// The letter that a byte stands for.
-fn letter_of(byte: u8) -> Option<Letter>
-    ensures { result ≡ letter byte }
-{
-    match char::from(byte) {
-        'M' => Some(Letter::M),
-        'P' => Some(Letter::P),
-        'D' => Some(Letter::D),
+    match trimmed(field) {
+        [byte] => Some(*byte),
         _ => None,
     }
 }
@@ -89,75 +63,31 @@ fn letter_of(byte: u8) -> Option<Letter>
 pub(crate) fn letter_in(field: &[u8]) -> Option<Letter>
     ensures { result ≡ letter_in field.now }
 {
-    let Some(byte) = lone_byte(field) else {
-        return None;
-    };
-    letter_of(byte)
-}
-
-// Whether a field holds the mark for coming from outside.
-fn is_start(field: &[u8]) -> bool
-    ensures { result ≡ is 83 (lone (unspaced field.now)) }
-{
-    let Some(byte) = lone_byte(field) else {
-        return false;
-    };
-    match char::from(byte) {
-        'S' => true,
-        _ => false,
+    match lone_byte(field)? {
+        b'M' => Some(Letter::M),
+        b'P' => Some(Letter::P),
+        b'D' => Some(Letter::D),
+        _ => None,
     }
 }
 
-// Whether a field holds the mark for going outside.
-fn is_exit(field: &[u8]) -> bool
-    ensures { result ≡ is 69 (lone (unspaced field.now)) }
+// The column or the height in a field: a number, or the mark that stands for outside.
+pub(crate) fn place_in(field: &[u8], mark: u8) -> Option<Place>
+    ensures { result ≡ place_in mark field.now }
 {
-    let Some(byte) = lone_byte(field) else {
-        return false;
-    };
-    match char::from(byte) {
-        'E' => true,
-        _ => false,
-    }
-}
-
-// The number in a field as a column or a height.
-fn numbered_place(field: &[u8]) -> Option<Place>
-    ensures { result ≡ numbered (number_in field.now) }
-{
-    let Some(n) = number(field) else {
-        return None;
-    };
-    Some(Place::At(n))
-}
-
-// Where an action starts from: a number, or S.
-pub(crate) fn from_place(field: &[u8]) -> Option<Place>
-    ensures { result ≡ place_in 83 field.now }
-{
-    if is_start(field) {
+    if lone_byte(field) == Some(mark) {
         return Some(Place::Outside);
     }
-    numbered_place(field)
-}
-
-// Where an action leads to: a number, or E.
-pub(crate) fn to_place(field: &[u8]) -> Option<Place>
-    ensures { result ≡ place_in 69 field.now }
-{
-    if is_exit(field) {
-        return Some(Place::Outside);
-    }
-    numbered_place(field)
+    number(field).map(Place::At)
 }
 
 // Whether a robot carries a block: 1, or 0 for none.
 pub(crate) fn carry_in(field: &[u8]) -> Option<bool>
     ensures { result ≡ flag (number_in field.now) }
 {
-    match number(field) {
-        Some(0) => Some(false),
-        Some(1) => Some(true),
+    match number(field)? {
+        0 => Some(false),
+        1 => Some(true),
         _ => None,
     }
 }
@@ -166,5 +96,5 @@ pub(crate) fn carry_in(field: &[u8]) -> Option<bool>
 pub(crate) fn is_blank(bytes: &[u8]) -> bool
     ensures { result ≡ blank bytes.now }
 {
-    trimmed(bytes).is_empty()
+    bytes.iter().all(|b| *b == b' ')
 }

@@ -5,10 +5,12 @@ mod field;
 mod figure;
 mod line;
 mod read;
+mod reader;
 mod record;
 mod room;
 mod sheet;
 mod target;
+mod unread;
 
 pub use field::number;
 pub use figure::tower_work;

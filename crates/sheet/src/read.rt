@@ -1,161 +1,95 @@
 // Reading a sheet.
-ghost use Rattle.std.specs.Prelude.{◌≡◌, ℕ, ◌+◌, ◌*◌, ◌<◌, ◌≤◌, true, false, ◌++◌, length, IfOk, Some, vec_len, vec_capacity, MatchOption};
-ghost use Rattle.std.specs.Option.{option_map};
-ghost use Rattle.terms.specs.Refusals.{Answers, Settles, first_of, or_else, refusal_in, told_of};
+ghost use Rattle.std.specs.Prelude.{◌≡◌, ◌+◌, ◌<◌, ◌≤◌, true, false, ◌++◌, ◌==◌, length, Some, MatchOption, vec_len};
+ghost use Rattle.std.specs.Simd.{first_chunks};
+ghost use Rattle.terms.specs.Refusals.{Answers, Settles, first_of, or_else, refusal_in};
 ghost use Rattle.terms.specs.View.{settings_of};
 ghost use Rattle.sheet.specs.Kinds.{line_tests};
 ghost use Rattle.sheet.specs.Lines.{record_in};
 ghost use Rattle.sheet.specs.Reasons.{reading_reasons};
 ghost use Rattle.sheet.specs.View.{sheet_of, records_in};
-ghost use Rattle.sheet.specs.Reading.{rises, goal_fits, place_tests, goals_of, acts_of, Small, bad_sheet, line_at, lines_in, reading_refusal};
+ghost use Rattle.sheet.specs.Reading.{goal_fits, place_tests, goals_of, acts_of, Small, bad_sheet, lines_in, reading_refusal};
 
-use crate::line::read_line;
+use crate::line::{LINE, read_line};
+use crate::reader::Reader;
 use crate::record::Record;
-use crate::{ActLine, Room, Sheet, Target};
+use crate::room::MOST_LINES;
+use crate::{Room, Sheet, Target};
 use ground::Ground;
-use std::alloc::{AllocError, Global};
 use terms::{Refusal, Rule, Settings};
 
-// How many bytes a line has, with its newline.
-const LINE: usize = 35;
-
-// The most lines that a sheet may have.
-const MOST_LINES: usize = 1500;
-
-impl Room {
-    // Room for the longest sheet.
-    pub fn new(heap: Global) -> Result<Room, AllocError>
-        ensures { IfOk result (λ room. (1500 ≤ vec_capacity room.targets) × (1500 ≤ vec_capacity room.acts)) }
+impl<'a, G: Ground> Reader<'a, G> {
+    // Whether a target fits behind the targets and the actions so far.
+    fn is_fit(&self, column: u32, height: u32) -> bool
+        ensures { result ≡ goal_fits (G.Ground.meaning self.now.ground.now) (settings_of self.now.settings.now) self.now.targets.items (vec_len self.now.acts) column height }
     {
-        let targets = Vec::with_capacity(heap, MOST_LINES)?;
-        let acts = Vec::with_capacity(heap, MOST_LINES)?;
-        Ok(Room { targets, acts })
+        let rises = self
+            .targets
+            .last()
+            .is_none_or(|last| u32::from(last.column) < column);
+        self.acts.is_empty()
+            && rises
+            && column < u32::from(self.ground.columns())
+            && !self.ground.is_border(column as u16)
+            && (1..u32::from(self.settings.levels())).contains(&height)
+    }
+
+    // That what the line of a number shows fits behind what was read, or why not.
+    fn check(&self, number: u16, shown: Record) -> Result<(), Refusal>
+        ensures { Answers (first_of (place_tests (G.Ground.meaning self.now.ground.now) (settings_of self.now.settings.now) number (number == self.now.total) self.now.targets.items (vec_len self.now.acts) (Some shown))) (λ _. Small shown) result }
+    {
+        let last = number == self.total;
+        let rule = match shown {
+            Record::Goal { column, height } if !self.is_fit(column, height) => Rule::GoalMisplaced,
+            // By `as`: there is no `From` between a u32 and a usize.
+            Record::End { count } if last && count as usize == self.acts.len() => return Ok(()),
+            Record::End { .. } => Rule::EndMisplaced,
+            _ if last => Rule::EndMisplaced,
+            _ => return Ok(()),
+        };
+        Err(Refusal::at(rule, number, 0))
+    }
+
+    // Adds what the next line shows to the targets or to the actions.
+    fn add(&mut self, shown: Record)
+        requires more { self.old.lines < self.old.total }
+        requires small { Small shown }
+        ensures added { (self.new.targets.items ≡ self.old.targets.items ++ goals_of (Some shown)) × (self.new.acts.items ≡ self.old.acts.items ++ acts_of (Some shown)) }
+        ensures lines { (self.new.lines ≡ self.old.lines + 1) × (self.new.total ≡ self.old.total) }
+        ensures same { (self.new.ground.now ≡ self.old.ground.now) × (self.new.settings.now ≡ self.old.settings.now) }
+    {
+        self.lines += 1;
+        match shown {
+            Record::Goal { column, height } => self.targets.push_reserved(Target {
+                column: column as u16,
+                height: height as u8,
+            }),
+            Record::Act(act) => self.acts.push_reserved(act),
+            Record::Note | Record::End { .. } => {}
+        }
+    }
+
+    // Reads the next line and adds what it shows, or says why not.
+    fn take_line(&mut self, bytes: &[u8; LINE]) -> Result<(), Refusal>
+        requires more { self.old.lines < self.old.total }
+        ensures value { Answers (or_else (first_of (line_tests (self.old.lines + 1) bytes.now)) (first_of (place_tests (G.Ground.meaning self.old.ground.now) (settings_of self.old.settings.now) (self.old.lines + 1) (self.old.lines + 1 == self.old.total) self.old.targets.items (vec_len self.old.acts) (record_in (self.old.lines + 1) bytes.now)))) (λ _. (self.new.targets.items ≡ self.old.targets.items ++ goals_of (record_in (self.old.lines + 1) bytes.now)) × (self.new.acts.items ≡ self.old.acts.items ++ acts_of (record_in (self.old.lines + 1) bytes.now)) × (self.new.lines ≡ self.old.lines + 1)) result }
+        ensures total { self.new.total ≡ self.old.total }
+        ensures same { (self.new.ground.now ≡ self.old.ground.now) × (self.new.settings.now ≡ self.old.settings.now) }
+    {
+        let number = self.lines + 1;
+        let shown = read_line(bytes, number)?;
+        self.check(number, shown)?;
+        self.add(shown);
+        Ok(())
     }
 }
 
-// Whether a column is above that of the last target.
-fn is_rising(targets: &[Target], column: u32) -> bool
-    ensures { result ≡ rises targets.now column }
+// The lines of a sheet, where it has some, all whole, and not too many.
+fn lines_of(sheet: &[u8]) -> Option<&[[u8; LINE]]>
+    ensures { MatchOption result (bad_sheet sheet.now ≡ true) (λ lines. (bad_sheet sheet.now ≡ false) × (lines.now ≡ first_chunks 35 (lines_in sheet.now) sheet.now) × (length lines.now ≡ lines_in sheet.now) × (length lines.now ≤ 1500)) }
 {
-    match targets.last() {
-        Some(last) => u32::from(last.column) < column,
-        None => true,
-    }
-}
-
-// Whether a target fits behind these targets and this number of actions.
-fn is_fit<G: Ground>(
-    ground: &G,
-    settings: &Settings,
-    targets: &[Target],
-    acts: usize,
-    column: u32,
-    height: u32,
-) -> bool
-    ensures { result ≡ goal_fits (G.Ground.meaning ground.now) (settings_of settings.now) targets.now acts column height }
-{
-    if acts > 0 || !is_rising(targets, column) || column >= u32::from(ground.columns()) {
-        return false;
-    }
-    !ground.is_border(column as u16) && height >= 1 && height < u32::from(settings.levels())
-}
-
-// Why a record does not fit behind these targets and this number of actions, if it does not.
-fn misplaced<G: Ground>(
-    ground: &G,
-    settings: &Settings,
-    targets: &[Target],
-    acts: usize,
-    number: u16,
-    last: bool,
-    shown: Record,
-) -> Option<Refusal>
-    ensures { option_map told_of result ≡ first_of (place_tests (G.Ground.meaning ground.now) (settings_of settings.now) number last targets.now acts (Some shown)) }
-{
-    let rule = match shown {
-        Record::Goal { column, height }
-            if !is_fit(ground, settings, targets, acts, column, height) => Rule::GoalMisplaced,
-        Record::End { count } if last && count as usize == acts => return None,
-        Record::End { .. } => Rule::EndMisplaced,
-        _ if last => Rule::EndMisplaced,
-        _ => return None,
-    };
-    Some(Refusal::at(rule, number, 0))
-}
-
-// Adds what a line shows to the targets or to the actions.
-fn add(targets: &mut Vec<Target>, acts: &mut Vec<ActLine>, shown: Record)
-    requires targets_fit { vec_len targets.old < vec_capacity targets.old }
-    requires acts_fit { vec_len acts.old < vec_capacity acts.old }
-    requires small { Small shown }
-    ensures added { (targets.new.items ≡ targets.old.items ++ goals_of (Some shown)) × (acts.new.items ≡ acts.old.items ++ acts_of (Some shown)) }
-    ensures targets_room { (vec_capacity targets.new ≡ vec_capacity targets.old) × (vec_len targets.new ≤ vec_len targets.old + 1) }
-    ensures acts_room { (vec_capacity acts.new ≡ vec_capacity acts.old) × (vec_len acts.new ≤ vec_len acts.old + 1) }
-{
-    match shown {
-        Record::Goal { column, height } => targets.push_reserved(Target {
-            column: column as u16,
-            height: height as u8,
-        }),
-        Record::Act(act) => acts.push_reserved(act),
-        Record::Note | Record::End { .. } => {}
-    }
-}
-
-// Reads the line of a number and adds what it shows, or says why not.
-fn take_line<G: Ground>(
-    ground: &G,
-    settings: &Settings,
-    bytes: &[u8],
-    number: u16,
-    last: bool,
-    targets: &mut Vec<Target>,
-    acts: &mut Vec<ActLine>,
-) -> Result<(), Refusal>
-    requires whole { length bytes.now ≡ 35 }
-    requires targets_fit { vec_len targets.old < vec_capacity targets.old }
-    requires acts_fit { vec_len acts.old < vec_capacity acts.old }
-    ensures value { Answers (or_else (first_of (line_tests number bytes.now)) (first_of (place_tests (G.Ground.meaning ground.now) (settings_of settings.now) number last targets.old.items (vec_len acts.old) (record_in number bytes.now)))) (λ _. (targets.new.items ≡ targets.old.items ++ goals_of (record_in number bytes.now)) × (acts.new.items ≡ acts.old.items ++ acts_of (record_in number bytes.now))) result }
-    ensures targets_room { (vec_capacity targets.new ≡ vec_capacity targets.old) × (vec_len targets.new ≤ vec_len targets.old + 1) }
-    ensures acts_room { (vec_capacity acts.new ≡ vec_capacity acts.old) × (vec_len acts.new ≤ vec_len acts.old + 1) }
-{
-    let shown = match read_line(bytes, number) {
-        Ok(shown) => shown,
-        Err(refusal) => return Err(refusal),
-    };
-    if let Some(refusal) = misplaced(
-        ground,
-        settings,
-        targets.as_slice(),
-        acts.len(),
-        number,
-        last,
-        shown,
-    ) {
-        return Err(refusal);
-    }
-    add(targets, acts, shown);
-    Ok(())
-}
-
-// How many lines a sheet has, where it has some, all whole, and not too many.
-fn whole_lines(sheet: &[u8]) -> Option<usize>
-    ensures { MatchOption result (bad_sheet sheet.now ≡ true) (λ n. (bad_sheet sheet.now ≡ false) × (n ≡ lines_in sheet.now) × (n ≤ 1500) × (35 * n ≡ length sheet.now)) }
-{
-    let lines = sheet.len() / LINE;
-    if sheet.len() == 0 || sheet.len() % LINE != 0 || lines > MOST_LINES {
-        return None;
-    }
-    Some(lines)
-}
-
-// Line i of a sheet, counted from 0.
-fn cut(sheet: &[u8], i: usize) -> &[u8]
-    requires { 35 * (i + 1) ≤ length sheet.now }
-    ensures value { result.now ≡ line_at sheet.now i }
-    ensures size { length result.now ≡ 35 }
-{
-    &sheet[LINE * i..LINE * i + LINE]
+    let (lines, rest) = sheet.as_chunks();
+    let whole = rest.is_empty() && (1..=MOST_LINES).contains(&lines.len());
+    whole.then_some(lines)
 }
 
 // Reads a sheet for a ground and settings: its records, or the earliest line's first broken rule.
@@ -168,31 +102,28 @@ pub fn read_sheet<G: Ground>(
     ensures value { Answers (reading_refusal (G.Ground.meaning ground.now) (settings_of settings.now) sheet.now) (λ s. sheet_of s ≡ records_in sheet.now) result }
     ensures words { Settles (reading_reasons (G.Ground.meaning ground.now) (settings_of settings.now) sheet.now) (refusal_in result) }
 {
-    let Some(lines) = whole_lines(sheet) else {
-        return Err(Refusal::plain(Rule::SheetShape));
+    let lines = lines_of(sheet).ok_or(Rule::SheetShape)?;
+    let Room { targets, acts } = room;
+    let mut reader = Reader {
+        ground,
+        settings,
+        total: lines.len() as u16,
+        lines: 0,
+        targets: targets.into_vec(),
+        acts: acts.into_vec(),
     };
-    let Room {
-        mut targets,
-        mut acts,
-    } = room;
-    for i in 0..lines {
-        let number = i as u16 + 1;
-        match take_line(
-            ground,
-            settings,
-            cut(sheet, i),
-            number,
-            i + 1 == lines,
-            &mut targets,
-            &mut acts,
-        ) {
-            Ok(()) => {}
-            Err(refusal) => return Err(refusal),
-        }
+    for line in lines {
+        reader.take_line(line)?;
     }
+    let Reader {
+        targets,
+        acts,
+        lines,
+        ..
+    } = reader;
     Ok(Sheet {
         targets,
         acts,
-        lines: lines as u16,
+        lines,
     })
 }

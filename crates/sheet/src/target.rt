@@ -1,6 +1,6 @@
 // The target of a column.
 
-#[derive(Clone, Copy)]
+#[derive(Clone, Copy, PartialEq, Eq, Debug)]
 pub struct Target {
     pub column: u16,
     pub height: u8,

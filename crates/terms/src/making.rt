@@ -2,43 +2,34 @@
 ghost use Rattle.std.specs.Prelude.{◌≡◌, ◌≤◌};
 ghost use Rattle.std.specs.Option.{option_map};
 ghost use Rattle.terms.specs.Refusals.{Answers, Settles, refusal_in};
-ghost use Rattle.terms.specs.Durations.{duration_set, duration_of, times};
+ghost use Rattle.terms.specs.Durations.{duration_set, duration_of};
 ghost use Rattle.terms.specs.View.{settings_of, times_of};
 ghost use Rattle.terms.specs.Ranges.{settings_refusal, settings_reasons, settings_from};
 
 use crate::{Durations, Refusal, Rule, Settings, Work};
 
-// Durations of entry, leave, move with a block, move without, pick up and deliver.
-fn durations(entry: u8, leave: u8, loaded: u8, empty: u8, pickup: u8, deliver: u8) -> Durations
-    requires entry_lasts { 1 ≤ entry }
-    requires leave_lasts { 1 ≤ leave }
-    requires loaded_lasts { 1 ≤ loaded }
-    requires empty_lasts { 1 ≤ empty }
-    requires pickup_lasts { 1 ≤ pickup }
-    requires deliver_lasts { 1 ≤ deliver }
-    ensures { times_of result ≡ times entry leave loaded empty pickup deliver }
+// The durations of entry, leave, move with a block, move without, pick up and deliver, a row for each set.
+const SETS: [[u8; 6]; 4] = [
+    [1, 1, 1, 1, 1, 1],
+    [2, 1, 1, 1, 2, 2],
+    [3, 2, 3, 1, 3, 3],
+    [3, 3, 3, 2, 2, 3],
+];
+
+// The duration set of a number, if there is one.
+fn duration_set(number: u32) -> Option<Durations>
+    ensures { option_map times_of result ≡ duration_set number }
 {
-    Durations {
+    // By `as`: there is no `From` between a u32 and a usize.
+    let [entry, leave, loaded, empty, pickup, deliver] = *SETS.get(number as usize)?;
+    Some(Durations {
         entry,
         leave,
         loaded,
         empty,
         pickup,
         deliver,
-    }
-}
-
-// The duration set of a number, if there is one.
-fn duration_set(number: u32) -> Option<Durations>
-    ensures { option_map times_of result ≡ duration_set number }
-{
-    match number {
-        0 => Some(durations(1, 1, 1, 1, 1, 1)),
-        1 => Some(durations(2, 1, 1, 1, 2, 2)),
-        2 => Some(durations(3, 2, 3, 1, 3, 3)),
-        3 => Some(durations(3, 3, 3, 2, 2, 3)),
-        _ => None,
-    }
+    })
 }
 
 impl Settings {
@@ -47,11 +38,9 @@ impl Settings {
         ensures value { Answers (settings_refusal levels robots set) (λ s. settings_of s ≡ settings_from levels robots set) result }
         ensures words { Settles (settings_reasons levels robots set) (refusal_in result) }
     {
-        let Some(durations) = duration_set(set) else {
-            return Err(Refusal::plain(Rule::SettingsRange));
-        };
-        if levels < 1 || levels > 16 || robots < 1 || robots > 64 {
-            return Err(Refusal::plain(Rule::SettingsRange));
+        let durations = duration_set(set).ok_or(Rule::SettingsRange)?;
+        if !(1..=16).contains(&levels) || !(1..=64).contains(&robots) {
+            return Err(Rule::SettingsRange.into());
         }
         Ok(Settings {
             levels: levels as u8,

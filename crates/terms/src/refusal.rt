@@ -16,10 +16,10 @@ pub enum Layer {
     Drawing,
 }
 
-// Why something is refused. docs/RULES.md has each rule in words, with its number.
+// Why something is refused, numbered from 1. docs/RULES.md has each rule in words, with its number.
 #[derive(Clone, Copy, PartialEq, Eq, Debug)]
 pub enum Rule {
-    SquareSize,
+    SquareSize = 1,
     BorderList,
     LinkOrder,
     SeventhLink,
@@ -60,42 +60,7 @@ impl Rule {
     pub fn number(self) -> u16
         ensures { result ≡ number_of self }
     {
-        match self {
-            Rule::SquareSize => 1,
-            Rule::BorderList => 2,
-            Rule::LinkOrder => 3,
-            Rule::SeventhLink => 4,
-            Rule::SettingsRange => 5,
-            Rule::SheetShape => 6,
-            Rule::LineShape => 7,
-            Rule::FieldUnreadable => 8,
-            Rule::GoalMisplaced => 9,
-            Rule::EndMisplaced => 10,
-            Rule::MarksMixed => 11,
-            Rule::OffScale => 12,
-            Rule::NotConnected => 13,
-            Rule::WrongDuration => 14,
-            Rule::StartFalls => 15,
-            Rule::LeftStanding => 16,
-            Rule::WrongHeightsWritten => 17,
-            Rule::SpansCollide => 18,
-            Rule::FromNowhere => 19,
-            Rule::TooManySpans => 20,
-            Rule::LeftBehind => 21,
-            Rule::TargetMissed => 22,
-            Rule::NoColumn => 23,
-            Rule::NoStandingRobot => 24,
-            Rule::WrongLoad => 25,
-            Rule::NoLink => 26,
-            Rule::ColumnHeld => 27,
-            Rule::WrongHeights => 28,
-            Rule::SiteFull => 29,
-            Rule::NoWayHome => 30,
-            Rule::ActionRuns => 31,
-            Rule::NoRobot => 32,
-            Rule::NotFresh => 33,
-            Rule::BufferShort => 34,
-        }
+        self as u16
     }
 
     // The layer that checks this rule.
@@ -146,5 +111,13 @@ impl Refusal {
         ensures { told_of result ≡ told rule line detail }
     {
         Refusal { rule, line, detail }
+    }
+}
+
+impl From<Rule> for Refusal {
+    ghost from_gives = { λ rule refusal. told_of refusal ≡ told rule 0 0 };
+
+    fn from(rule: Rule) -> Refusal {
+        Refusal::plain(rule)
     }
 }

@@ -1,4 +1,5 @@
 // The settings of a site: its levels, the most robots on it, and how long their work takes.
+// No model: the proofs of other crates read the ranges off these ghost fields, and a model would hide them.
 ghost use Rattle.std.specs.Prelude.{◌≤◌};
 
 use crate::Durations;

@@ -11,7 +11,7 @@ use Rattle.gate.specs.declared.column.State.{State}
 use Rattle.gate.specs.declared.column.State.TheVariants.{Free, Standing, Busy}
 use Rattle.undertaking.proofs.Plain.{after_ticks, Rested}
 use Rattle.undertaking.specs.Obeying.{Quiet}
-use Rattle.undertaking.proofs.Seen.{at_tick}
+use Rattle.gate.proofs.Ticked.{at_tick}
 use Rattle.undertaking.proofs.Asked.{none_below}
 
 abbrev left : State → ℕ

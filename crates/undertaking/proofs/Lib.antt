@@ -19,5 +19,5 @@ pub mod Enduring
 pub mod Lasted
 pub mod Reading
 pub mod Undertaken
-pub mod Turning
 pub mod Making
+pub mod Turning

@@ -1,10 +1,10 @@
 -- What is read of a site after a tick, and after an action began. Assumes nothing.
 use Rattle.std.proofs.Common.{◌≡◌, ℕ, ◌+◌, ◌<◌, ◌≢◌, length, sym, ap, ◌∙◌, subst, inl, inr, arith}
-use Rattle.std.proofs.lemmas.List.{get_or_past, get_or-map, length-map, get_or-set_same, get_or-set_other, length-set, get_or-replicate, length-replicate}
+use Rattle.std.proofs.lemmas.List.{get_or_past, get_or-set_same, get_or-set_other, length-set, get_or-replicate, length-replicate}
 use Rattle.std.proofs.lemmas.Bool.{cases_lt, cases_eq}
 use Rattle.gate.proofs.Sums.{sum_change, sum_change_two}
-use Rattle.gate.specs.Column.{fresh, facing, ticked}
-use Rattle.gate.specs.Scene.{Columns, at, height_at, put, begin, tick_all, sum_below}
+use Rattle.gate.specs.Column.{fresh, facing}
+use Rattle.gate.specs.Scene.{Columns, at, height_at, put, begin, sum_below}
 use Rattle.gate.specs.declared.column.Column.{Column}
 use Rattle.gate.specs.declared.column.Part.{Part}
 use Rattle.gate.specs.declared.column.State.{State}
@@ -16,12 +16,6 @@ pub at_opening : (m : Meaning) (c : ℕ) → at (opening m) c ≡ fresh
 at_opening m c = elim (cases_lt c m.columns) [
   | inl l ↦ get_or-replicate m.columns c fresh fresh l
   | inr g ↦ get_or_past (opening m) c fresh (omega (arith, length-replicate m.columns fresh))
-]
-
-pub at_tick : (xs : Columns) (c : ℕ) → at (tick_all xs) c ≡ ticked (at xs c)
-at_tick xs c = elim (cases_lt c (length xs)) [
-  | inl l ↦ get_or-map ticked xs c fresh fresh l
-  | inr g ↦ get_or_past (tick_all xs) c fresh (omega (arith, length-map xs ticked)) ∙ ap ticked (sym (get_or_past xs c fresh g))
 ]
 
 -- a column that is read as other than fresh is within

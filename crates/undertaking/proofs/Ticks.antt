@@ -12,15 +12,12 @@ use Rattle.gate.specs.declared.column.State.TheVariants.{Busy}
 use Rattle.ground.specs.Meaning.{Meaning}
 use Rattle.terms.specs.Durations.{SiteSettings}
 use Rattle.undertaking.proofs.Plain.{relief}
-use Rattle.ways.specs.Way.{Relief, Way, Settled}
+use Rattle.ways.specs.Way.{Relief, Way}
 use Rattle.ways.specs.Way.Way.{home, onward}
-use Rattle.undertaking.proofs.Seen.{at_tick}
+use Rattle.gate.proofs.Recalling.{way_settled}
+use Rattle.gate.proofs.Ticked.{at_tick}
 use Rattle.undertaking.proofs.Kept.{Fits, Facing, Kept, Kind, gives, takes, share, shares}
 use Rattle.undertaking.proofs.Turns.{went_on, next_busy, fits_next, settled_next, Came, came, share_next, share_next_all, lasting, per_move, moving, lasting_next}
-
-pub way_settled : {m : Meaning} {r : Relief} {c n : ℕ} → Way m r c n → Settled r c
-way_settled (home b h) = h
-way_settled (onward l g h w) = h
 
 -- what is settled stays settled, at its height: ways stay
 pub way_stays : (m : Meaning) (r t : Relief) → ((e : ℕ) → r.changing e ≡ false → (t.changing e ≡ false) × (t.heights e ≡ r.heights e))

@@ -1,4 +1,5 @@
 pub mod Runs
+pub mod Requests
 pub mod Obeying
 pub mod Lasting
 pub mod Undertaking

@@ -1,6 +1,7 @@
 -- Lists of calls: the site after them, their answers, and what is counted over them. Assumes nothing.
 use Rattle.std.specs.Prelude.{◌≡◌, ℕ, zero, suc, ◌+◌, List, [], ◌∷◌, Some, None, Ok, Err, Option, Result}
 use Rattle.terms.specs.Refusals.{Told, told_of}
+use Rattle.terms.specs.declared.refusal.Refusal.{Refusal}
 use Rattle.gate.specs.declared.call.Call.{Call}
 use Rattle.gate.specs.declared.call.Call.TheVariants.{Enter, Move, Lay, Lift, Leave, Tick, Recall}
 use Rattle.gate.specs.declared.order.Order.{Order}
@@ -8,8 +9,6 @@ use Rattle.gate.specs.Scene.{Scene, one_if, blocks_leaving}
 use Rattle.gate.specs.Gate.{refusal, settle, step}
 use Rattle.gate.specs.Recall.{recall, Recalled}
 use Rattle.gate.specs.Words.{Performed}
-use Rattle.undertaking.specs.declared.answer.Answer.{Answer}
-use Rattle.undertaking.specs.declared.answer.Answer.TheVariants.{Granted, Refused, Named}
 
 -- the site after a list of calls
 abbrev pub run : Scene → List Call → Scene
@@ -26,10 +25,10 @@ pub data Reply : Type 0 where
   refused : Told → Reply
   named : Order → Reply
 
-abbrev pub reply_of : Answer → Reply
-reply_of Granted = Reply.granted
-reply_of (Refused f) = Reply.refused (told_of f)
-reply_of (Named order) = Reply.named order
+abbrev pub reply_of : Result (Option Order) Refusal → Reply
+reply_of (Ok None) = Reply.granted
+reply_of (Ok (Some order)) = Reply.named order
+reply_of (Err f) = Reply.refused (told_of f)
 
 abbrev pub by_refusal : Option Told → Reply
 by_refusal None = Reply.granted

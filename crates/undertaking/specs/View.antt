@@ -1,7 +1,10 @@
 -- What clauses read of a stage. Assumes nothing.
-use Rattle.std.specs.Prelude.{List, vec_items}
-use Rattle.gate.specs.declared.call.Call.{Call}
+use Rattle.std.specs.Prelude.{ℕ, List, vec_items}
 use Rattle.undertaking.specs.declared.stage.Stage.{Stage}
 
-abbrev pub calls_of : Stage → List Call
-calls_of stage = vec_items stage.calls
+-- the requests on a stage, and how many it has room for
+abbrev pub requests_of : {R : Type 0} → Stage R → List R
+requests_of stage = vec_items stage.requests
+
+abbrev pub room_of : {R : Type 0} → Stage R → ℕ
+room_of stage = stage.most

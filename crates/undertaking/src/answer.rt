@@ -1,10 +1,6 @@
-// What a call answers.
+// What a request answers.
 use gate::Order;
 use terms::Refusal;
 
-#[derive(Clone, Copy)]
-pub enum Answer {
-    Granted,
-    Refused(Refusal),
-    Named(Order),
-}
+// Granted, with the order that it names, if it names one, or refused.
+pub type Answer = Result<Option<Order>, Refusal>;

@@ -1,14 +1,19 @@
-// Calls to make from an opening, with the room that they need, made before.
+// Requests to make of a site from its opening, with the room that they need, made before.
 ghost use Rattle.std.specs.Prelude.{◌≡◌, ◌≤◌, vec_len, vec_capacity};
 
 use crate::answer::Answer;
-use gate::{Call, Plot};
+use gate::Plot;
 
+// There is room for `most` requests and their answers: a number of run time, so no Reserve, and the very number that was asked for,
+// where a list may have room for more.
 #[derive(Drop)]
-pub struct Stage {
+pub struct Stage<R: Drop> {
     pub(crate) plot: Plot,
-    pub(crate) calls: Vec<Call>,
+    pub(crate) most: usize,
+    pub(crate) requests: Vec<R>,
     pub(crate) answers: Vec<Answer>,
+    ghost few_requests: { vec_len requests ≤ most },
+    ghost requests_fit: { most ≤ vec_capacity requests },
     ghost no_answers: { vec_len answers ≡ 0 },
-    ghost answers_fit: { vec_len calls ≤ vec_capacity answers },
+    ghost answers_fit: { most ≤ vec_capacity answers },
 }

@@ -1,8 +1,8 @@
 -- A round may be made in place: the labels that it gives are not those that it looks for. Assumes nothing.
 use Rattle.std.proofs.Common.{◌≡◌, ℕ, suc, ◌+◌, ◌<◌, ◌≤◌, Bool, true, false, cond, not, ◌&&◌, ltb, ◌≢◌, ◌⊎◌, length, set, is_some, Some, None, Option, sym, refl, ap, ◌∙◌, subst, inl, inr, add-one, arith}
 use Rattle.std.proofs.lemmas.List.{get_or-set_same, get_or-set_other}
-use Rattle.std.proofs.lemmas.Bool.{cases_lt, cases_eq, cases_Bool, cond-true, cond-false, lt-ltb, le-ltb, ne_eqb}
-use Rattle.ground.specs.Meaning.{Meaning}
+use Rattle.std.proofs.lemmas.Bool.{and_left, cases_lt, cases_eq, cases_Bool, cond-true, cond-false, lt-ltb, le-ltb, ne_eqb}
+use Rattle.ground.specs.Meaning.{Lawful, Meaning}
 use Rattle.ways.specs.Way.{Relief}
 use Rattle.ways.specs.Table.{Table, Relabelled, label, is_label, near, lower, lowest_beside, first_below, gains, first_label, next_label, after, steps}
 use Rattle.ways.proofs.Tests.{gains_decides}
@@ -76,12 +76,19 @@ module _ (m : Meaning) (r : Relief) (n : ℕ) (old : ℕ → Option ℕ) where
       let P : Table → Type 0 = λ t. Relabelled new old t (c + 1) in
       subst P (sym e) (one_kept new old us c h (not_gained c (sym (gains_same us c h) ∙ g)))
 
+-- no column past the last is at the border
+pub no_first_label : (m : Meaning) (changing : ℕ → Bool) → Lawful m → (e : ℕ) → m.columns ≤ e → first_label m changing e ≡ None
+no_first_label m changing law e past_last = elim (cases_Bool (m.border e)) [
+  | inl b ↦ absurd (omega (arith, law.at_border e b))
+  | inr f ↦ cond-false (m.border e && not (changing e)) (Some 0) None (and_left (m.border e) (not (changing e)) f)
+]
+
 -- the tables of the search against the rounds
 module _ (m : Meaning) (r : Relief) where
-  pub started : (us : Table) → Relabelled (first_label m r.changing) (λ _. None) us m.columns → (e : ℕ) → label us e ≡ label (after m r 0) e
-  started us h e = h e ∙ elim (cases_lt e m.columns) [
-    | inl l ↦ cond-true (ltb e m.columns) (first_label m r.changing e) None (lt-ltb e m.columns l) ∙ sym (at_start m r e l)
-    | inr g ↦ cond-false (ltb e m.columns) (first_label m r.changing e) None (le-ltb e m.columns g) ∙ sym (past m r 0 e g)
+  pub started : Lawful m → (us : Table) → ((e : ℕ) → label us e ≡ first_label m r.changing e) → (e : ℕ) → label us e ≡ label (after m r 0) e
+  started law us h e = h e ∙ elim (cases_lt e m.columns) [
+    | inl l ↦ sym (at_start m r e l)
+    | inr g ↦ no_first_label m r.changing law e g ∙ sym (past m r 0 e g)
   ]
 
   pub rounded : (n : ℕ) (ts us : Table) → ((e : ℕ) → label ts e ≡ label (after m r n) e)

@@ -6,4 +6,3 @@ pub mod Exactness
 pub mod Nearest
 pub mod Along
 pub mod InPlace
-pub mod Blank

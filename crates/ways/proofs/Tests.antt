@@ -2,6 +2,7 @@
 use Rattle.std.proofs.Common.{◌≡◌, ℕ, ◌<◌, Bool, true, false, not, ◌&&◌, is_some, Some, None, Decides, Option, sym, refl, arith}
 use Rattle.std.proofs.lemmas.Bool.{false≢true, true≢false}
 use Rattle.std.proofs.lemmas.Bool.Decides.{Decides-and, nat_tests}
+use Rattle.terms.proofs.Tests.{decides_isnt}
 use Rattle.ground.specs.Meaning.{Meaning}
 use Rattle.ways.specs.Way.{Relief, Near, Settled}
 use Rattle.ways.specs.Table.{near, is_label, lower, lowest_beside, gains}
@@ -17,10 +18,6 @@ none_decides : (o : Option ℕ) → Decides (not (is_some o)) (o ≡ None)
 none_decides None = (λ _. refl, λ _. refl)
 none_decides (Some n) = (λ e. absurd (false≢true e), λ e. absurd (none≢some (sym e)))
 
-not_decides : (b : Bool) → Decides (not b) (b ≡ false)
-not_decides true = (λ e. absurd (false≢true e), λ e. absurd (true≢false e))
-not_decides false = (λ _. refl, λ _. refl)
-
 -- d is linked with c, within one height of it, and labelled n
 abbrev pub Lower : Meaning → (ℕ → ℕ) → (ℕ → Option ℕ) → ℕ → ℕ → ℕ → Type 0
 Lower m heights labels n c d = (m.linked c d ≡ true) × (Near (heights c) (heights d) × (labels d ≡ Some n))
@@ -34,5 +31,5 @@ pub gains_decides : (m : Meaning) (r : Relief) (labels : ℕ → Option ℕ) (n 
     → Decides (gains m r labels n c) ((labels c ≡ None) × (Settled r c × ((d : ℕ) × (d < m.columns) × Lower m r.heights labels n c d)))
 gains_decides m r labels n c =
     Decides-and (not (is_some (labels c))) (not (r.changing c) && is_some (lowest_beside m r.heights labels n c)) (none_decides (labels c))
-    (Decides-and (not (r.changing c)) (is_some (lowest_beside m r.heights labels n c)) (not_decides (r.changing c))
+    (Decides-and (not (r.changing c)) (is_some (lowest_beside m r.heights labels n c)) (decides_isnt (r.changing c))
     (first_decides (lower m r.heights labels n c) (Lower m r.heights labels n c) (lower_decides m r.heights labels n c) m.columns))

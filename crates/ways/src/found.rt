@@ -1,6 +1,6 @@
 // What a search found.
 
-// The fewest steps home of each column.
+// The fewest steps home of each column. There are 256 places, whatever the ground: memory is fixed.
 #[derive(Drop)]
 pub struct Ways {
     pub(crate) steps: [Option<u16>; 256],

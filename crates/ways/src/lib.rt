@@ -5,6 +5,7 @@ mod found;
 mod links;
 mod search;
 mod tall;
+mod terrain;
 
 pub use found::Ways;
 pub use links::is_near;

@@ -1,28 +1,25 @@
-// The links of a column, one after the other.
+// Heights that are near, and the lowest neighbour of a column that has a label.
 ghost use Rattle.std.specs.Prelude.{◌≡◌, Decides};
 ghost use Rattle.ways.specs.Way.{Near};
 ghost use Rattle.ways.specs.Table.{label, lowest_beside, fits, is_label, near};
 ghost use Rattle.ways.specs.View.{heights_by};
 
 use crate::tall::{Tall, height_at};
-use ground::Ground;
+use ground::{Ground, Neighbours};
 
 // Whether two heights differ by at most one.
 pub fn is_near(a: u8, b: u8) -> bool
     ensures value { result ≡ near a b }
     ensures words { Decides result (Near a b) }
 {
-    b as u16 <= a as u16 + 1 && a as u16 <= b as u16 + 1
+    a.abs_diff(b) <= 1
 }
 
 // Whether a column is labelled n.
 fn is_labelled(steps: &[Option<u16>], column: u16, n: u16) -> bool
     ensures { result ≡ is_label (label steps.now column) n }
 {
-    match steps.get(column as usize) {
-        Some(Some(k)) => *k == n,
-        _ => false,
-    }
+    steps.get(usize::from(column)) == Some(&Some(n))
 }
 
 // Whether a column beside another is within one height of it, and labelled n.
@@ -42,13 +39,5 @@ pub(crate) fn lowest_beside<G: Ground, C: Tall>(
 ) -> Option<u16>
     ensures { result ≡ lowest_beside (G.Ground.meaning ground.now) (heights_by C.Tall.tallness columns.now) (label steps.now) n column }
 {
-    for k in 0..G::limit() {
-        let Some(beside) = ground.link(column, k) else {
-            return None;
-        };
-        if fits(columns, steps, n, column, beside) {
-            return Some(beside);
-        }
-    }
-    None
+    Neighbours::of(ground, column).find(|beside| fits(columns, steps, n, column, *beside))
 }

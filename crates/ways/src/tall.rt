@@ -14,20 +14,14 @@ pub trait Tall {
 pub(crate) fn height_at<C: Tall>(columns: &[C], column: u16) -> u8
     ensures { result ≡ heights_by C.Tall.tallness columns.now column }
 {
-    let at = column as usize;
-    if at < columns.len() {
-        columns[at].height()
-    } else {
-        0
-    }
+    columns
+        .get(usize::from(column))
+        .map_or(0, |here| here.height())
 }
 
 // Whether a column is settled: no mark says that it is changing.
 pub(crate) fn is_settled(marks: &[u8], column: u16) -> bool
     ensures { result ≡ not (marked marks.now column) }
 {
-    match marks.get(column as usize) {
-        Some(mark) => *mark == 0,
-        None => true,
-    }
+    marks.get(usize::from(column)).is_none_or(|mark| *mark == 0)
 }

@@ -15,7 +15,7 @@ use Rattle.gate.specs.Recall.{recall}
 use Rattle.gate.specs.Scene.{Scene}
 use Rattle.undertaking.specs.Runs.{run}
 use Rattle.job.specs.Jobs.{job_refusal}
-use Rattle.job.specs.Replies.{ok_row, plan_in, reply}
+use Rattle.job.specs.Replies.{answered, ok_row, plan_in, reply}
 
 -- what is given, and what is expected, both as numbers
 pub record Example : Type 0 where
@@ -119,5 +119,10 @@ examples =
     ∷ record { given = named (recall (after (Leave 5 ∷ Tick ∷ Move 7 6 ∷ Tick ∷ Move 6 1 ∷ Tick ∷ Leave 1 ∷ Tick ∷ []))); expected = 32 ∷ 0 ∷ 0 ∷ [] }
     ∷ []
 
-abbrev pub ExamplesHold : Type 0
-ExamplesHold = agree examples ≡ true
+-- what is printed of the first job once its plan was played: its figures, and the heights then
+abbrev pub played : List ℕ
+played = line (codes "OK       3     3     1") ++ line (codes "  0  0  0  0  1  0  0  0  0")
+
+pub record ExamplesHold : Type 0 where
+  pub computed : agree examples ≡ true
+  pub answers : answered (job_line ++ one_block) ≡ played

@@ -1,9 +1,11 @@
-use Rattle.std.proofs.Common.{◌≡◌, ℕ, suc, ◌+◌, ◌*◌, ◌<◌, ◌≤◌, List, [], ◌∷◌, ◌++◌, length, get_or, take, set, sym, ap, ◌∙◌, arith}
+use Rattle.std.proofs.Common.{◌≡◌, ℕ, suc, ◌+◌, ◌*◌, ◌<◌, ◌≤◌, List, [], ◌∷◌, ◌++◌, length, get_or, take, set, sym, ap, ◌∙◌, arith, rules}
 use borrow.Rule.Slice.PartMut.{put_mid}
 use Rattle.std.specs.List.{flat_map}
 use Rattle.std.proofs.lemmas.List.{take_more, take_all, drop_all, flat_map_more, set_split}
 use Rattle.std.proofs.lemmas.Slice.{take-put_mid}
+use Rattle.draw.specs.Places.{justified}
 use Rattle.draw.specs.Rows.{cell, row_text}
+use Rattle.draw.proofs.Digits.{cell_justified}
 use Rattle.draw.proofs.write_row.Goals as goal
 
 -- One cell more.
@@ -25,7 +27,9 @@ close hs out i e long inv =
     ∙ ap (λ (t : List ℕ). t ++ (10 ∷ [])) (inv ∙ ap (flat_map cell) (take_all i hs (omega arith)))
 
 pub loop-i-preserved : goal.loop-i-preserved
-loop-i-preserved c = step c.args.heights.now c.loop-i.out c.write_cell.new.out c.loop-i.i _ (omega arith) (omega arith) c.loop-i.invariant c.write_cell.ensures
+loop-i-preserved c =
+    let wide = c.copy_from_slice.ensures.after ∙ c.justified.ensures ∙ ap (justified 3) c.from.ensures ∙ cell_justified (get_or c.args.heights.now c.loop-i.i 0) (search rules) in
+    step c.args.heights.now c.loop-i.out c.copy_from_slice.new.self c.loop-i.i _ (omega arith) (omega arith) c.loop-i.invariant wide
 
 pub returns : goal.returns
 returns c = close c.args.heights.now c.loop-i.out c.loop-i.i (omega arith) (omega arith) c.loop-i.invariant

@@ -1,11 +1,13 @@
-use Rattle.std.proofs.Common.{◌≡◌, ℕ, ◌+◌, ◌*◌, ◌≤◌, List, ◌++◌, length, take, drop, sym, ap, ◌∙◌, arith, length-append, rules}
+use Rattle.std.proofs.Common.{min, subst, ◌<◌, ◌≡◌, ℕ, ◌+◌, ◌-◌, ◌*◌, ◌≤◌, List, ◌++◌, length, take, drop, refl, sym, ap, ◌∙◌, arith, length-append, length-take, rules}
 use borrow.Rule.Slice.PartMut.{put_mid}
 use Rattle.std.specs.Slice.Iter.{chunks_rest}
+use Rattle.std.specs.Iterator.Adapters.{enumerate_count, enumerate_source}
 use Rattle.std.proofs.lemmas.List.{append_assoc, append-nil, length-take-le, take-append-drop, drop-drop}
-use Rattle.std.proofs.lemmas.Slice.{take-put_mid, drop-put_mid, overwrites}
+use Rattle.std.proofs.lemmas.Slice.{take-put_mid, drop-put_mid}
 use Rattle.draw.specs.Rows.{row_text, text}
-use Rattle.draw.proofs.Texts.{text_split, text_none, length_row, length_text}
+use Rattle.draw.proofs.Texts.{text_split, text_none, length_row}
 use Rattle.draw.proofs.write_rows.Goals as goal
+use Rattle.draw.proofs.write_rows.Invariants.{Going, Whole}
 
 -- There is room for the row x.
 room : (hs out rest x t : List ℕ) (at : ℕ) → at ≤ length out → length (text hs) ≤ length out → take at out ++ text rest ≡ text hs → text rest ≡ row_text x ++ text t
@@ -40,35 +42,64 @@ whole hs out was rest at far inv none same =
     let n : at ≡ length (text hs) = sym (length-take-le at out far) ∙ ap length all in
     (n, sym (take-append-drop at out) ∙ ap (λ (l : List ℕ). l ++ drop at out) all ∙ ap (λ (l : List ℕ). text hs ++ l) (same ∙ ap (λ (m : ℕ). drop m was) n))
 
-pub slice_bounds-write_row-end : goal.slice_bounds-write_row-end
-slice_bounds-write_row-end c =
-    let s = c.in-Some.ensures.steps.1 in
-    let i = c.loop-row.invariant in
-    let split = text_split (chunks_rest c.loop-row.row-iterator) c.in-Some.row.now (chunks_rest c.next.new.self) s.0 (omega arith) s.2 in
-    let size = length_text c.args.heights.now in
-    let h = room c.args.heights.now c.loop-row.out (chunks_rest c.loop-row.row-iterator) c.in-Some.row.now (chunks_rest c.next.new.self) c.loop-row.at
-    i.3 (omega arith) i.4 split in
-    omega arith
-
-pub loop-row-preserved : goal.loop-row-preserved
-loop-row-preserved c =
-    let s = c.in-Some.ensures.steps in
-    let i = c.loop-row.invariant in
-    let split = text_split (chunks_rest c.loop-row.row-iterator) c.in-Some.row.now (chunks_rest c.next.new.self) s.1.0 (omega arith) s.1.2 in
-    let size = length_text c.args.heights.now in
-    let ys = ap length c.write_row.ensures ∙ length_row c.in-Some.row.now in
-    let h = room c.args.heights.now c.loop-row.out (chunks_rest c.loop-row.row-iterator) c.in-Some.row.now (chunks_rest c.next.new.self) c.loop-row.at
-    i.3 (omega arith) i.4 split in (
-      omega arith,
-      omega arith,
-      omega arith,
-      search (rules, overwrites),
-      drawn c.args.heights.now c.loop-row.out (chunks_rest c.loop-row.row-iterator) c.in-Some.row.now (chunks_rest c.next.new.self) c.write_row.new.out c.loop-row.at _ _
-          i.3 (omega arith) c.write_row.ensures i.4 split,
-      behind c.loop-row.out c.args.out.now c.write_row.new.out c.loop-row.at _ _ i.3 (omega arith) (omega arith) i.5,
+-- A row more is drawn at the place of its number.
+onward : (hs out was rest x t ys : List ℕ) (n i m k : ℕ) → i ≡ n → m ≡ n + 1 → k ≡ 3 * length x + 1 → length (text hs) ≤ length out → Going hs was out rest n
+    → rest ≡ x ++ t → length x ≡ min 16 (length rest) → 0 < length rest → ys ≡ row_text x
+    → (0 < length t → Going hs was (put_mid (49 * i) k out ys) t m) × (length t ≡ 0 → Whole hs was (put_mid (49 * i) k out ys))
+onward hs out was rest x t ys n i m k ei em ek fits g e l h y =
+    let split = text_split rest x t e l h in
+    let end = 49 * i + 3 * length x + 1 in
+    let near = room hs out rest x t (49 * n) g.0 fits g.1 split in
+    let long : length ys ≡ 3 * length x + 1 = ap length y ∙ length_row x in
+    let here : Going hs was out rest i = subst (λ (j : ℕ). Going hs was out rest j) (sym ei) g in
+    let front = drawn hs out rest x t ys (49 * i) end k here.0 (omega arith) y here.1 split in
+    let back = behind out was ys (49 * i) end k here.0 (omega arith) (omega arith) here.2 in
+    let new = put_mid (49 * i) k out ys in
+    let drawn_to = ap length (take-put_mid (49 * i) k out ys end (omega arith) here.0) ∙ length-append (take (49 * i) out) ys in
+    let far : end ≤ length new = omega (arith, drawn_to, length-take-le (49 * i) out here.0, length-take end new) in
+    let both = ap length e ∙ length-append x t in (
+      λ some.
+          let step : end ≡ 49 * m = omega arith in
+          subst (λ (j : ℕ). (j ≤ length new) × (take j new ++ text t ≡ text hs) × (drop j new ≡ drop j was)) step
+          (far, front, back),
+      λ none. (whole hs new was t end far front none back).1,
     )
 
+-- Before the first row.
+begun : (hs out rest : List ℕ) (n : ℕ) → rest ≡ hs → n ≡ 0 → (0 < length rest → Going hs out out rest n) × (length rest ≡ 0 → Whole hs out out)
+begun hs out rest n e z = (
+  λ some. (omega arith, ap (λ (j : ℕ). take (49 * j) out ++ text rest) z ∙ ap text e, refl),
+  λ none.
+      let nothing = text_none hs (sym (ap length e) ∙ none) in
+      sym (ap (λ (l : List ℕ). l ++ drop (length l) out) nothing),
+)
+
+pub loop-i-init : goal.loop-i-init
+loop-i-init c =
+    let rest : chunks_rest (enumerate_source c.into_iter-i-iterator.result) ≡ c.args.heights.now = search rules in
+    let none : enumerate_count c.into_iter-i-iterator.result ≡ 0 = search rules in
+    let w = begun c.args.heights.now c.args.out.now (chunks_rest (enumerate_source c.into_iter-i-iterator.result)) (enumerate_count c.into_iter-i-iterator.result) rest none in
+    (search rules, tt, search rules, w.0, w.1)
+
+pub slice_bounds-write_row-end : goal.slice_bounds-write_row-end
+slice_bounds-write_row-end c =
+    let s = c.in-Some.ensures.steps in
+    let at = s.1 in
+    let rest = chunks_rest (enumerate_source c.loop-i.i-iterator) in
+    let split = text_split rest c.in-Some.row.now (chunks_rest (enumerate_source c.next.new.self)) s.0.1.0 (s.0.1.1 ∙ ap (λ (n : ℕ). min n (length rest)) c.loop-i.invariant.2) s.0.1.2 in
+    let g = c.loop-i.invariant.3 s.0.1.2 in
+    let h = room c.args.heights.now c.loop-i.out rest c.in-Some.row.now (chunks_rest (enumerate_source c.next.new.self)) (49 * enumerate_count c.loop-i.i-iterator) g.0 (omega arith) g.1 split in
+    omega arith
+
+pub loop-i-preserved : goal.loop-i-preserved
+loop-i-preserved c =
+    let s = c.in-Some.ensures.steps in
+    let rest = chunks_rest (enumerate_source c.loop-i.i-iterator) in
+    let w =
+    onward c.args.heights.now c.loop-i.out c.args.out.now rest c.in-Some.row.now (chunks_rest (enumerate_source c.next.new.self)) c.write_row.new.out
+    (enumerate_count c.loop-i.i-iterator) c.in-Some.i (enumerate_count c.next.new.self) (49 * c.in-Some.i + 3 * length c.in-Some.row.now + 1 - 49 * c.in-Some.i)
+    s.1 s.2 (omega arith) (omega arith) (c.loop-i.invariant.3 s.0.1.2) s.0.1.0 (s.0.1.1 ∙ ap (λ (n : ℕ). min n (length rest)) c.loop-i.invariant.2) s.0.1.2 c.write_row.ensures in
+    (search rules, tt, search rules, w.0, w.1)
+
 pub returns : goal.returns
-returns c =
-    let i = c.loop-row.invariant in
-    (whole c.args.heights.now c.loop-row.out c.args.out.now (chunks_rest c.loop-row.row-iterator) c.loop-row.at i.3 i.4 c.in-None.ensures.steps.1.0 i.5).1
+returns c = c.loop-i.invariant.4 (search rules)

@@ -1,15 +1,13 @@
--- One byte more is kept, and at the end all of them.
-use Rattle.std.proofs.Common.{[], arith}
-use Rattle.ground.proofs.Filling.{filled_border, filled_byte, filled_none}
+-- Each row has the border byte of its column, and no links.
+use Rattle.std.proofs.Common.{rules, refl, arith}
+use Rattle.ground.specs.Table.{no_row}
+use Rattle.ground.proofs.Filling.{bare, filled_none}
+use Rattle.ground.proofs.Made.{made_at}
 use Rattle.ground.proofs.listed_ground.bordered.Goals as goal
-
-pub loop-column-init : goal.loop-column-init
-loop-column-init c = filled_none
-
-pub loop-column-preserved : goal.loop-column-preserved
-loop-column-preserved c =
-    filled_byte c.args.border.now (λ _. []) c.loop-column.rows c.loop-column.column (omega (arith, c.requires, c.loop-column-test.true)) c.loop-column.invariant
 
 pub returns : goal.returns
 returns c =
-    filled_border c.args.border.now (λ _. []) c.loop-column.rows c.loop-column.column c.loop-column-test.false c.loop-column.invariant
+    let border = c.args.border.now in
+    let rows = c.from_fn.result in
+    filled_none border rows c.requires c.from_fn.ensures.items.long
+    (λ k lt. (made_at _ _ (bare border) rows (λ i y q call. search rules) 0 256 _ refl c.from_fn.ensures.items.each k (omega arith) (omega arith)).1 no_row)

@@ -1,16 +1,12 @@
--- A byte above 1 refuses the border list, and one of 0 or 1 leaves it to the rest.
-use Rattle.std.proofs.Common.{sym, ◌∙◌}
-use Rattle.ground.proofs.Scans.{bits_yes, border_no, border_yes}
+-- Where the lengths are right, the bytes decide.
+use Rattle.std.proofs.Common.{rules, leb, ◌∙◌}
+use Rattle.std.proofs.lemmas.Iterator.{YieldsList-from_slice}
+use Rattle.std.proofs.lemmas.Iterator.Search.{all_from_yields_List}
+use Rattle.ground.proofs.Scans.{border_fits_yes}
 use Rattle.ground.proofs.listed_ground.is_border_list.Goals as goal
+use borrow.Author.Tests.{tests}
 
-pub returns-then-byte-gt1 : goal.returns-then-byte-gt1
-returns-then-byte-gt1 c =
-    sym (border_no c.args.border.now c.loop-byte.byte-index c.args.columns c.loop-byte-test.true c.if-byte-gt1.true c.loop-byte.invariant)
-
-pub loop-byte-preserved : goal.loop-byte-preserved
-loop-byte-preserved c =
-    sym (bits_yes c.args.border.now c.loop-byte.byte-index c.loop-byte-test.true c.if-byte-gt1.false) ∙ c.loop-byte.invariant
-
-pub returns : goal.returns
-returns c =
-    sym (border_yes c.args.border.now c.loop-byte.byte-index c.args.columns c.loop-byte-test.false c.loop-byte.invariant c.if-columns-lt1.false c.if-columns-gt256.false c.if-border-columns.false)
+pub returns-then-border-from : goal.returns-then-border-from
+returns-then-border-from c =
+    all_from_yields_List (λ b. leb b 1) c.all.new.self _ c.all.result c.all.ensures.ran (YieldsList-from_slice c.args.border.now c.iter.ensures.rest) (λ x b q k. search (rules, tests)) ∙
+    border_fits_yes c.args.columns c.args.border.now (search rules) (search rules) (search rules)

@@ -7,6 +7,6 @@ use Rattle.job.proofs.playing.read_heights.Given as goal
 -- the heights of the columns so far are read
 abbrev pub invariant-loop-column : goal.invariant-loop-column
 invariant-loop-column g l =
-    (vec_items l.heights ≡ map (height_at (scene_of g.G.Ground.meaning l.site).columns) (range_with_len 0 l.column)) ×
-    (vec_len l.heights ≡ l.column) ×
-    (vec_capacity l.heights ≡ vec_capacity l.initial.heights)
+    (vec_items l.values ≡ map (height_at (scene_of l.site).columns) (range_with_len 0 l.column)) ×
+    (vec_len l.values ≡ l.column) ×
+    (vec_capacity l.values ≡ vec_capacity l.initial.values)

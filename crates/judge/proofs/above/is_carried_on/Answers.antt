@@ -1,19 +1,13 @@
-use Rattle.std.proofs.Common.{sym}
+use Rattle.std.proofs.Common.{◌∙◌, rules, tests}
+use Rattle.std.proofs.lemmas.Iterator.{YieldsList-from_slice}
+use Rattle.std.proofs.lemmas.Iterator.Search.{any_from_yields_List}
 use Rattle.plan.specs.Plan.{starts}
 use Rattle.plan.specs.View.{action_of}
-use Rattle.judge.proofs.Steps.{some_here, some_later, some_none}
+use Rattle.judge.proofs.Searches.{some_is}
 use Rattle.judge.proofs.above.is_carried_on.Goals as goal
-
-pub returns-then-starts : goal.returns-then-starts
-returns-then-starts c =
-    some_here action_of (starts c.args.time c.args.column) c.args.actions.now c.loop-action.action-index c.action-item.result
-    c.loop-action-test.true c.action-item.is (sym c.if-starts.ensures) c.loop-action.invariant
-
-pub loop-action-preserved : goal.loop-action-preserved
-loop-action-preserved c =
-    some_later action_of (starts c.args.time c.args.column) c.args.actions.now c.loop-action.action-index c.action-item.result
-    c.loop-action-test.true c.action-item.is (sym c.if-starts.ensures) c.loop-action.invariant
 
 pub returns : goal.returns
 returns c =
-    some_none action_of (starts c.args.time c.args.column) c.args.actions.now c.loop-action.action-index c.loop-action-test.false c.loop-action.invariant
+    let p = starts c.args.time c.args.column in
+    any_from_yields_List (λ x. p (action_of x)) _ _ _ c.any.ensures.ran (YieldsList-from_slice c.args.actions.now cc) (λ x b q k. search (rules, tests))
+    ∙ some_is action_of p c.args.actions.now

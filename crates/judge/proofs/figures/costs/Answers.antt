@@ -1,13 +1,10 @@
-use Rattle.std.proofs.Common.{sum_by, ◌∙◌, arith}
-use Rattle.plan.specs.View.{action_of}
-use Rattle.judge.specs.Figures.{cost}
-use Rattle.judge.proofs.Steps.{sum_more, whole}
+use Rattle.std.proofs.Common.{◌≤◌, length, arith, rules}
+use Rattle.std.proofs.lemmas.Iterator.{YieldsList-from_slice}
+use Rattle.std.proofs.lemmas.Iterator.Adapters.{at_most_from_yields_List, fits_from_length}
 use Rattle.judge.proofs.figures.costs.Goals as goal
 
-pub loop-action-preserved : goal.loop-action-preserved
-loop-action-preserved c =
-    let h = sum_more action_of cost c.args.actions.now c.loop-action.action-index c.action-item.result c.loop-action-test.true c.action-item.is in
-    (omega arith, omega arith)
-
-pub returns : goal.returns
-returns c = record { value = c.loop-action.invariant.0 ∙ whole action_of (sum_by cost) c.args.actions.now c.loop-action.action-index c.loop-action-test.false }
+-- each of at most 1,500 actions adds no more than 32 bits hold
+pub sum-requires-clause-fits : goal.sum-requires-clause-fits
+sum-requires-clause-fits c =
+    let few : length c.deref.result.now ≤ 1500 = omega (arith, c.deref.ensures.len, c.args.actions.now.few) in
+    fits_from_length _ _ 1500 _ (at_most_from_yields_List (YieldsList-from_slice c.deref.result.now cc) few) c.map.ensures.closure (omega arith) (λ x r q k. search rules)

@@ -1,19 +1,13 @@
-use Rattle.std.proofs.Common.{arith}
+use Rattle.std.proofs.Common.{refl, ◌∙◌, rules, tests}
+use Rattle.std.proofs.lemmas.Iterator.{YieldsList-from_map, YieldsList-from_slice}
+use Rattle.std.proofs.lemmas.Iterator.Consumers.{max_from_yields_List}
 use Rattle.plan.specs.Plan.{makespan}
 use Rattle.plan.specs.View.{action_of}
-use Rattle.judge.proofs.Steps.{at_end, next}
+use Rattle.judge.proofs.Searches.{largest_is}
 use Rattle.judge.proofs.figures.latest_end.Goals as goal
-use Rattle.judge.proofs.figures.latest_end.Goals.{then-end-latest, else-end-latest}
-
-pub loop-action-preserved : goal.loop-action-preserved
-loop-action-preserved c =
-    let h = next action_of makespan c.args.actions.now c.loop-action.action-index c.action-item.result c.loop-action-test.true c.action-item.is in
-    elim c.if-end-latest.branch [
-      | then-end-latest w ↦ omega (arith, w.latest-is, w.end-latest.ensures, w.if-end-latest.true)
-      | else-end-latest w ↦ omega (arith, w.latest-is, w.if-end-latest.false)
-    ]
 
 pub returns : goal.returns
 returns c =
-    let h = at_end action_of makespan c.args.actions.now c.loop-action.action-index c.loop-action-test.false in
-    omega arith
+    let xs = c.args.actions.now in
+    let ran = max_from_yields_List c.map.result c.max.result c.max.ensures.ran (YieldsList-from_map _ (λ x. (action_of x).end) (YieldsList-from_slice xs cc) c.map.ensures.closure (λ x r q k. search (rules, tests))) in
+    c.unwrap_or.ensures ∙ largest_is makespan (λ a. a.end) refl (λ _ _. refl) action_of xs c.max.result ran

@@ -1,29 +1,19 @@
-use Rattle.std.proofs.Common.{sym, ap, ◌∙◌, inl, inr, arith}
-use Rattle.std.proofs.lemmas.List.{length-map}
-use Rattle.plan.specs.Plan.{Action}
+use Rattle.std.proofs.Common.{◌≡◌, refl, ◌∙◌, arith, rules, tests}
+use Rattle.std.proofs.lemmas.Iterator.{YieldsList-from_map, YieldsList-from_slice}
+use Rattle.std.proofs.lemmas.Iterator.Consumers.{max_from_yields_List}
 use Rattle.plan.specs.View.{action_of, plan_of}
-use Rattle.judge.proofs.Most.{line_of, most_more, most_never, most_reached}
+use Rattle.judge.proofs.Most.{beside, largest, most_never, most_reached}
+use Rattle.judge.proofs.Searches.{largest_is}
 use Rattle.judge.proofs.figures.most_at_once.Goals as goal
-use Rattle.judge.proofs.figures.most_at_once.Goals.{then-running-most, else-running-most}
-
-pub loop-action-preserved : goal.loop-action-preserved
-loop-action-preserved c =
-    let xs = c.args.actions.now in
-    let i = c.loop-action.action-index in
-    let at = line_of xs i c.action-item.result c.loop-action-test.true c.action-item.is in
-    most_more (plan_of xs) i c.loop-action.most c.running_at-running.result c.if-running-most.most c.start.result c.running_at-running.ensures
-    (c.start.ensures ∙ sym (ap (λ (a : Action). a.start) at))
-    (elim c.if-running-most.branch [
-      | then-running-most w ↦ inl (omega (arith, w.if-running-most.true), w.most-is)
-      | else-running-most w ↦ inr (omega (arith, w.if-running-most.false), w.most-is)
-    ])
-    c.loop-action.invariant
 
 pub returns : goal.returns
 returns c =
     let xs = c.args.actions.now in
-    let i = c.loop-action.action-index in
+    let plan = plan_of xs in
+    let ran = max_from_yields_List c.map.result c.max.result c.max.ensures.ran (YieldsList-from_map _ (λ x. beside plan (action_of x)) (YieldsList-from_slice xs cc) c.map.ensures.closure (λ x r q k. search (rules, tests))) in
+    let is : c.unwrap_or.result ≡ largest (beside plan) plan = c.unwrap_or.ensures ∙ largest_is (largest (beside plan)) (beside plan) refl (λ _ _. refl) action_of xs c.max.result ran in
+    let once = most_reached plan in
     record {
-      reached = most_reached (plan_of xs) i c.loop-action.most (omega (arith, length-map xs action_of)) c.loop-action.invariant;
-      never_more = most_never (plan_of xs) i c.loop-action.most (omega (arith, length-map xs action_of)) c.loop-action.invariant;
+      reached = (once.0, omega (arith, once.1, is));
+      never_more = λ t. omega (arith, most_never plan t, is);
     }

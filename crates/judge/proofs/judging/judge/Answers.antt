@@ -1,100 +1,81 @@
 -- Each way out is the refusal of its stage, those before it having passed.
-use Rattle.std.proofs.Common.{◌≡◌, ℕ, List, Ok, Err, vec_items, sym, ap, ◌∙◌, arith}
-use Rattle.std.specs.Option.{option_map}
-use Rattle.terms.specs.Refusals.{first_of, told_of}
+use Rattle.std.proofs.Common.{◌≡◌, ℕ, List, is_ok, Ok, Err, Decides, Result, sym, ap, ◌∙◌}
+use Rattle.std.proofs.lemmas.Result.{err_from_is_err_and}
+use Rattle.terms.specs.Durations.{SiteSettings}
+use Rattle.terms.specs.Refusals.{Answers, Settles, first_of, refusal_in, told_of}
 use Rattle.terms.specs.View.{settings_of}
+use Rattle.terms.specs.declared.refusal.Refusal.{Refusal}
 use Rattle.ground.specs.Meaning.{Meaning}
-use Rattle.sheet.specs.View.{Records, records_in}
-use Rattle.sheet.specs.declared.record.ActLine.{ActLine}
-use Rattle.sheet.specs.declared.target.Target.{Target}
+use Rattle.sheet.specs.View.{Records, records_in, sheet_of}
+use Rattle.plan.specs.Judged.{Timed}
 use Rattle.plan.specs.Plan.{Action as Step}
 use Rattle.plan.specs.Rules.{written_plan, target_of}
 use Rattle.plan.specs.View.{plan_of}
-use Rattle.judge.specs.Judging.{end_tests}
-use Rattle.judge.specs.Verdict.{Accepts}
-use Rattle.judge.specs.View.{acceptance_of}
+use Rattle.judge.specs.Judging.{end_tests, judging_refusal}
+use Rattle.judge.specs.Reasons.{judging_reasons}
+use Rattle.judge.specs.Verdict.{Accepts, Keeps}
 use Rattle.judge.specs.declared.accepted.Accepted.{Accepted}
 use Rattle.judge.proofs.Timely.{timed}
 use Rattle.judge.proofs.Verdict.{at_end, at_lines, at_reading, decides_keeps, in_words}
 use Rattle.judge.proofs.judging.judge.Goals as goal
 
--- the sheet's end, of the same plan and targets
-ended : (m : Meaning) (n : ℕ) {p q : List Step} {t u : List Target} → p ≡ q → t ≡ u → first_of (end_tests m p (target_of t) n) ≡ first_of (end_tests m q (target_of u) n)
-ended m n a b = cc
+abbrev Accepting : List ℕ → Accepted → Type 0
+Accepting sheet a = Accepts (records_in sheet) a
 
-pub returns-in-Err : goal.returns-in-Err
-returns-in-Err g c =
+-- what is answered, in words and by the rules
+verdict : (m : Meaning) (s : SiteSettings) (sheet : List ℕ) → Timed s → (r : Result Accepted Refusal) → Answers (judging_refusal m s sheet) (Accepting sheet) r
+    → record { value : Answers (judging_refusal m s sheet) (Accepting sheet) r; words : Settles (judging_reasons m s sheet) (refusal_in r); rules : Decides (is_ok r) (Keeps m s sheet) }
+verdict m s sheet t r e = record { value = e; words = in_words m s sheet (Accepting sheet) r e; rules = decides_keeps m s sheet t (Accepting sheet) r e }
+
+-- the sheet's end, of the same plan
+ended : (m : Meaning) (r : Records) {p q : List Step} → p ≡ q → first_of (end_tests m q (target_of r.targets) r.lines) ≡ first_of (end_tests m p (target_of r.targets) r.lines)
+ended m r e = ap (λ (xs : List Step). first_of (end_tests m xs (target_of r.targets) r.lines)) (sym e)
+
+pub returns-in_err-read : goal.returns-in_err-read
+returns-in_err-read g c =
     let m = g.G.Ground.meaning c.args.ground.now in
     let s = settings_of c.args.settings.now in
     let sheet = c.args.sheet.now in
-    let P = λ (a : Accepted). Accepts (records_in sheet) (acceptance_of a) in
-    let e = at_reading m s sheet (told_of c.in-Err.refusal) c.in-Err.ensures.value in
-    record { value = e; words = in_words m s sheet P (Err c.in-Err.refusal) e; rules = decides_keeps m s sheet (timed c.args.settings.now) P (Err c.in-Err.refusal) e }
+    let refusal = c.in_err-read.field-0.0 in
+    let p = err_from_is_err_and c.from_residual.result c.from_residual.ensures.1 in
+    rw (p.1, p.2) (verdict m s sheet (timed c.args.settings.now) (Err refusal) (at_reading m s sheet (told_of refusal) c.in_err-read.ensures.value))
 
-pub judge_lines-requires : goal.judge_lines-requires
-judge_lines-requires g c =
-    record { none = c.args.room.no_actions; room = c.args.room.actions_fit; few = omega (arith, c.as_slice.ensures.len, c.in-Ok.read.few_acts) }
-
-pub returns-in-Err-judge_lines : goal.returns-in-Err-judge_lines
-returns-in-Err-judge_lines g c =
+pub returns-in_err-actions : goal.returns-in_err-actions
+returns-in_err-actions g c =
     let m = g.G.Ground.meaning c.args.ground.now in
     let s = settings_of c.args.settings.now in
     let sheet = c.args.sheet.now in
-    let P = λ (a : Accepted). Accepts (records_in sheet) (acceptance_of a) in
-    let read = c.in-Ok.ensures.value in
-    let r : Records = record { targets = vec_items c.in-Ok.read.targets; acts = c.as_slice.result.now; lines = c.in-Ok.read.lines } in
-    let is : r ≡ records_in sheet = ap (λ (xs : List ActLine). record { targets = vec_items c.in-Ok.read.targets; acts = xs; lines = c.in-Ok.read.lines }) c.as_slice.ensures.value ∙ read.1 in
-    let e = at_lines m s sheet r read.0 is (told_of c.in-Err-judge_lines.refusal) c.in-Err-judge_lines.ensures in
-    record {
-      value = e;
-      words = in_words m s sheet P (Err c.in-Err-judge_lines.refusal) e;
-      rules = decides_keeps m s sheet (timed c.args.settings.now) P (Err c.in-Err-judge_lines.refusal) e;
-    }
+    let refusal = c.in_err-actions.field-0.0 in
+    let read = c.in_ok-read.ensures.value in
+    let p = err_from_is_err_and c.from_residual-in_err-actions.result c.from_residual-in_err-actions.ensures.1 in
+    rw (p.1, p.2) (verdict m s sheet (timed c.args.settings.now) (Err refusal) (at_lines m s sheet (sheet_of c.in_ok-read.read) read.0 read.1 (told_of refusal) c.in_err-actions.ensures))
 
-pub returns-in-Some : goal.returns-in-Some
-returns-in-Some g c =
+pub returns-in_err-judge_end : goal.returns-in_err-judge_end
+returns-in_err-judge_end g c =
     let m = g.G.Ground.meaning c.args.ground.now in
     let s = settings_of c.args.settings.now in
     let sheet = c.args.sheet.now in
-    let P = λ (a : Accepted). Accepts (records_in sheet) (acceptance_of a) in
-    let read = c.in-Ok.ensures.value in
-    let lines = c.in-Ok-judge_lines.ensures in
-    let r : Records = record { targets = vec_items c.in-Ok.read.targets; acts = c.as_slice.result.now; lines = c.in-Ok.read.lines } in
-    let is : r ≡ records_in sheet =
-    ap (λ (xs : List ActLine). record { targets = vec_items c.in-Ok.read.targets; acts = xs; lines = c.in-Ok.read.lines }) c.as_slice.ensures.value ∙ read.1 in
-    let end = at_end m s sheet r read.0 is lines.0
-    ∙ sym (ended m c.in-Ok.read.lines (ap plan_of c.as_slice-2.ensures.value ∙ lines.1.0) c.as_slice-3.ensures.value) ∙ sym c.judge_end.ensures in
-    let e = end ∙ ap (option_map told_of) c.in-Some.is in
-    record {
-      value = e;
-      words = in_words m s sheet P (Err c.in-Some.refusal) e;
-      rules = decides_keeps m s sheet (timed c.args.settings.now) P (Err c.in-Some.refusal) e;
-    }
+    let refusal = c.in_err-judge_end.field-0.0 in
+    let read = c.in_ok-read.ensures.value in
+    let lines = c.in_ok-actions.ensures in
+    let r = sheet_of c.in_ok-read.read in
+    let p = err_from_is_err_and c.from_residual-in_err-judge_end.result c.from_residual-in_err-judge_end.ensures.1 in
+    rw (p.1, p.2)
+    (verdict m s sheet (timed c.args.settings.now) (Err refusal)
+    (at_end m s sheet r read.0 read.1 lines.0 ∙ ended m r (ap plan_of c.as_slice.ensures.value ∙ lines.1) ∙ sym c.in_err-judge_end.ensures))
 
-pub accept-requires : goal.accept-requires
-accept-requires g c = record { few = c.in-Ok-judge_lines.ensures.1.1 }
-
-pub returns-in-None : goal.returns-in-None
-returns-in-None g c =
+pub returns : goal.returns
+returns g c =
     let m = g.G.Ground.meaning c.args.ground.now in
     let s = settings_of c.args.settings.now in
     let sheet = c.args.sheet.now in
-    let P = λ (a : Accepted). Accepts (records_in sheet) (acceptance_of a) in
-    let read = c.in-Ok.ensures.value in
-    let lines = c.in-Ok-judge_lines.ensures in
-    let r : Records = record { targets = vec_items c.in-Ok.read.targets; acts = c.as_slice.result.now; lines = c.in-Ok.read.lines } in
-    let is : r ≡ records_in sheet =
-    ap (λ (xs : List ActLine). record { targets = vec_items c.in-Ok.read.targets; acts = xs; lines = c.in-Ok.read.lines }) c.as_slice.ensures.value ∙ read.1 in
-    let end = at_end m s sheet r read.0 is lines.0
-    ∙ sym (ended m c.in-Ok.read.lines (ap plan_of c.as_slice-2.ensures.value ∙ lines.1.0) c.as_slice-3.ensures.value) ∙ sym c.judge_end.ensures in
-    let none = end ∙ ap (option_map told_of) c.in-None.is in
-    let accepts : Accepts (records_in sheet) (acceptance_of c.accept.result) = record {
-      plan = c.accept.ensures.plan.0 ∙ lines.1.0 ∙ ap (λ (x : Records). written_plan x.acts) is;
-      targets = c.accept.ensures.plan.1 ∙ ap (λ (x : Records). x.targets) is;
+    let read = c.in_ok-read.ensures.value in
+    let lines = c.in_ok-actions.ensures in
+    let r = sheet_of c.in_ok-read.read in
+    let none = at_end m s sheet r read.0 read.1 lines.0 ∙ ended m r (ap plan_of c.as_slice.ensures.value ∙ lines.1) ∙ sym c.in_ok-judge_end.ensures in
+    let accepts : Accepting sheet c.accept.result = record {
+      plan = c.accept.ensures.plan.0 ∙ lines.1 ∙ ap (λ (x : Records). written_plan x.acts) read.1;
+      targets = c.accept.ensures.plan.1 ∙ ap (λ (x : Records). x.targets) read.1;
       figures = c.accept.ensures.figures;
     } in
-    record {
-      value = (none, accepts);
-      words = in_words m s sheet P (Ok c.accept.result) (none, accepts);
-      rules = decides_keeps m s sheet (timed c.args.settings.now) P (Ok c.accept.result) (none, accepts);
-    }
+    verdict m s sheet (timed c.args.settings.now) (Ok c.accept.result) (none, accepts)

@@ -1,34 +1,24 @@
-use Rattle.std.proofs.Common.{ℕ, [], ◌∷◌, Some, sym, ap, ◌∙◌}
-use Rattle.std.specs.Option.{option_map}
-use Rattle.terms.specs.Refusals.{first_of, from_on, told}
-use Rattle.terms.specs.declared.refusal.Rule.TheVariants.{TargetMissed}
+-- Each way out is the first test that holds, those before it having failed.
+use Rattle.std.proofs.Common.{arith}
+use Rattle.std.proofs.lemmas.Grind.{common_steps}
 use Rattle.plan.specs.Rules.{target_of}
 use Rattle.plan.specs.View.{plan_of}
-use Rattle.judge.specs.Judging.{missed}
-use Rattle.judge.proofs.Ended.{at_behind, past_behind}
+use Rattle.judge.proofs.Ended.{both_in_turn, in_turn}
 use Rattle.judge.proofs.judging.judge_end.Goals as goal
 
 pub returns-in-Some : goal.returns-in-Some
 returns-in-Some g c =
-    ap Some c.at.ensures
-    ∙ sym (at_behind (g.G.Ground.meaning c.args.ground.now) (plan_of c.args.actions.now) (target_of c.args.targets.now) c.args.end
-    c.first_left_behind.result c.in-Some.line c.first_left_behind.ensures c.in-Some.is)
+    let tests = in_turn (g.G.Ground.meaning c.args.ground.now) (plan_of c.args.actions.now) (target_of c.args.sheet.now.targets.items) c.args.sheet.now.lines _ c.first_left_behind.ensures in
+    grind (arith, common_steps)
 
 pub returns-in-Some-first_missed : goal.returns-in-Some-first_missed
 returns-in-Some-first_missed g c =
-    let m = g.G.Ground.meaning c.args.ground.now in
-    let plan = plan_of c.args.actions.now in
-    let targets = target_of c.args.targets.now in
-    let run = λ (n : ℕ). first_of (from_on (λ (x : ℕ). (missed plan targets c.latest_end.result x, told TargetMissed c.args.end x) ∷ []) 0 n) in
-    ap Some c.at-in-Some-first_missed.ensures
-    ∙ sym (past_behind m plan targets c.args.end c.first_left_behind.result c.latest_end.result c.first_left_behind.ensures c.in_default.is c.latest_end.ensures
-    ∙ ap run (sym c.columns.ensures) ∙ c.first_missed.ensures c.args.end ∙ ap (option_map (told TargetMissed c.args.end)) c.in-Some-first_missed.is)
+    let lines = c.args.sheet.now.lines in
+    let tests = both_in_turn (g.G.Ground.meaning c.args.ground.now) (plan_of c.args.actions.now) lines _ c.first_left_behind.ensures c.columns-columns.ensures c.latest_end-end.ensures c.as_slice.ensures.value (c.first_missed.ensures lines) in
+    grind (arith, common_steps)
 
 pub returns : goal.returns
 returns g c =
-    let m = g.G.Ground.meaning c.args.ground.now in
-    let plan = plan_of c.args.actions.now in
-    let targets = target_of c.args.targets.now in
-    let run = λ (n : ℕ). first_of (from_on (λ (x : ℕ). (missed plan targets c.latest_end.result x, told TargetMissed c.args.end x) ∷ []) 0 n) in
-    sym (past_behind m plan targets c.args.end c.first_left_behind.result c.latest_end.result c.first_left_behind.ensures c.in_default.is c.latest_end.ensures
-    ∙ ap run (sym c.columns.ensures) ∙ c.first_missed.ensures c.args.end ∙ ap (option_map (told TargetMissed c.args.end)) c.in_default-first_missed.is)
+    let lines = c.args.sheet.now.lines in
+    let tests = both_in_turn (g.G.Ground.meaning c.args.ground.now) (plan_of c.args.actions.now) lines _ c.first_left_behind.ensures c.columns-columns.ensures c.latest_end-end.ensures c.as_slice.ensures.value (c.first_missed.ensures lines) in
+    grind (arith, common_steps)

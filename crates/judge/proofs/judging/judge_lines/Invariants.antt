@@ -10,9 +10,9 @@ use Rattle.judge.proofs.judging.judge_lines.Given as goal
 -- the actions so far are those of the lines so far and broke no rule; what is left decides as all do
 abbrev pub invariant-loop-line : goal.invariant-loop-line
 invariant-loop-line g l =
-    (plan_of (vec_items l.actions) ≡ take l.line-index (written_plan l.acts)) ×
-    (vec_len l.actions ≡ l.line-index) ×
-    (1500 ≤ vec_capacity l.actions) ×
-    Settled (g.G.Ground.meaning l.ground) (plan_of (vec_items l.actions)) ×
-    (first_of (from_on (tests_at (g.G.Ground.meaning l.ground) (settings_of l.settings) l.acts) l.line-index (length l.acts - l.line-index))
-    ≡ first_of (from_on (tests_at (g.G.Ground.meaning l.ground) (settings_of l.settings) l.acts) 0 (length l.acts)))
+    (plan_of (vec_items l.list) ≡ take l.line-index (written_plan l.line-items)) ×
+    (vec_len l.list ≡ l.line-index) ×
+    (1500 ≤ vec_capacity l.list) ×
+    Settled (g.G.Ground.meaning l.ground) (plan_of (vec_items l.list)) ×
+    (first_of (from_on (tests_at (g.G.Ground.meaning l.ground) (settings_of l.settings) l.line-items) l.line-index (length l.line-items - l.line-index))
+    ≡ first_of (from_on (tests_at (g.G.Ground.meaning l.ground) (settings_of l.settings) l.line-items) 0 (length l.line-items)))

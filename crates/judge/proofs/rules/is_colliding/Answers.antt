@@ -3,7 +3,7 @@ use Rattle.std.proofs.lemmas.Bool.Decides.{same_from_decides}
 use Rattle.plan.specs.Plan.{shares}
 use Rattle.plan.specs.View.{action_of}
 use Rattle.judge.specs.Judging.{overlap}
-use Rattle.judge.proofs.Single.{decides_overlap}
+use Rattle.judge.proofs.Reasoned.{decides_overlap}
 use Rattle.judge.proofs.rules.is_colliding.Goals as goal
 
 pub returns-else-overlaps : goal.returns-else-overlaps

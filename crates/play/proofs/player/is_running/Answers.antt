@@ -1,19 +1,14 @@
-use Rattle.std.proofs.Common.{◌<◌, vec_items, sym, ap, ◌∙◌, arith}
-use Rattle.gate.specs.declared.column.Column.{Column}
+use Rattle.std.proofs.Common.{◌≡◌, ℕ, true, false, vec_items, refl, rules}
+use Rattle.std.proofs.lemmas.Iterator.{YieldsList-from_range, cases_from_any}
 use Rattle.gate.specs.Column.{runs}
-use Rattle.play.proofs.Turns.{none_before, none_so_far, one_runs}
+use Rattle.gate.specs.Scene.{state_at}
+use Rattle.play.proofs.Turns.{busy_below}
 use Rattle.play.proofs.player.is_running.Goals as goal
 
-pub loop-column-init : goal.loop-column-init
-loop-column-init g c = none_before (vec_items c.args.site.now.columns)
-
-pub returns-then-is_busy : goal.returns-then-is_busy
-returns-then-is_busy g c =
-    let l : c.loop-column.column < 256 = omega arith in
-    one_runs (vec_items c.args.site.now.columns) 256 c.loop-column.column l
-    (sym (c.is_busy.ensures ∙ ap (λ (x : Column). runs x.state) c.look.ensures) ∙ c.if-is_busy.true)
-
-pub loop-column-preserved : goal.loop-column-preserved
-loop-column-preserved g c =
-    none_so_far (vec_items c.args.site.now.columns) c.loop-column.column c.loop-column.invariant
-    (sym (c.is_busy.ensures ∙ ap (λ (x : Column). runs x.state) c.look.ensures) ∙ c.if-is_busy.false)
+pub returns : goal.returns
+returns g c =
+    let xs = vec_items c.args.site.now.columns in
+    let Yes : ℕ → Type 0 = λ k. runs (state_at xs k) ≡ true in
+    let No : ℕ → Type 0 = λ k. runs (state_at xs k) ≡ false in
+    busy_below xs 256 c.any.result
+    (cases_from_any _ _ c.any.result Yes No c.any.ensures.ran (YieldsList-from_range 0 256 256 refl refl) (λ x q h. search rules) (λ x q h. search rules))

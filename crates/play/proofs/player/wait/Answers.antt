@@ -6,6 +6,6 @@ use Rattle.play.proofs.player.wait.Goals as goal
 pub loop-tick-preserved : goal.loop-tick-preserved
 loop-tick-preserved g c =
     let l : c.loop-tick._tick < c.args.until = omega arith in
-    tick_on (scene_of g.G.Ground.meaning c.loop-tick.site) (scene_of g.G.Ground.meaning c.tick.new.self)
+    tick_on (scene_of c.loop-tick.site) (scene_of c.tick.new.self)
     c.args.until c.loop-tick._tick l c.tick.ensures.after
     ∙ c.loop-tick.invariant

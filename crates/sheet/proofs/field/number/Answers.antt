@@ -1,8 +1,12 @@
-use Rattle.std.proofs.Common.{sym, ◌∙◌}
-use Rattle.sheet.proofs.Numbers.{number_shows, shows_number}
+use Rattle.std.proofs.Common.{None, rules}
+use Rattle.sheet.proofs.Numbers.{numbers_show}
 use Rattle.sheet.proofs.field.number.Goals as goal
 
-pub returns : goal.returns
-returns c =
-    let e = c.justified.ensures in
-    record { value = e; words = λ n. (λ h. number_shows c.args.field.now n (sym e ∙ h), λ w. e ∙ shows_number c.args.field.now n w) }
+pub returns-in_default-clause-words : goal.returns-in_default-clause-words
+returns-in_default-clause-words c = numbers_show c.args.field.now c.digits_of.result (search rules)
+
+pub returns-in-empty-clause-words : goal.returns-in-empty-clause-words
+returns-in-empty-clause-words c = numbers_show c.args.field.now None (search rules)
+
+pub returns-in-empty-2-clause-words : goal.returns-in-empty-2-clause-words
+returns-in-empty-2-clause-words c = numbers_show c.args.field.now None (search rules)

@@ -1,32 +1,19 @@
-use Rattle.std.proofs.Common.{sym, ◌∙◌, arith}
-use Rattle.ground.specs.Meaning.{neighbours}
+-- The first of the neighbours that passes is the lowest column that is linked and passes.
+use Rattle.std.proofs.Common.{rules, sym, ◌∙◌}
+use Rattle.std.proofs.lemmas.Iterator.Consumers.{YieldsList-from_first}
+use Rattle.std.proofs.lemmas.Iterator.Search.{find_from_yields_List}
+use Rattle.ground.specs.Walk.{still_linked}
+use Rattle.ground.proofs.Picks.{as_it_is}
 use Rattle.ways.specs.Table.{fits, label}
 use Rattle.ways.specs.View.{heights_by}
-use Rattle.ways.proofs.Along.{along, none_left, all_seen, passes, fails}
+use Rattle.ways.proofs.Along.{along}
 use Rattle.ways.proofs.links.lowest_beside.Goals as goal
-
-pub returns-in_default : goal.returns-in_default
-returns-in_default g c =
-    let m = g.G.Ground.meaning c.args.ground.now in
-    let test = fits (heights_by g.C.Tall.tallness c.args.columns.now) (label c.args.steps.now) c.args.n c.args.column in
-    sym (none_left test (neighbours m c.args.column) c.loop-k.k c.in_default.ensures) ∙ c.loop-k.invariant ∙ along m c.args.column test
-
-pub returns-then-fits : goal.returns-then-fits
-returns-then-fits g c =
-    let m = g.G.Ground.meaning c.args.ground.now in
-    let test = fits (heights_by g.C.Tall.tallness c.args.columns.now) (label c.args.steps.now) c.args.n c.args.column in
-    sym (passes test (neighbours m c.args.column) c.loop-k.k c.in-Some.beside c.in-Some.ensures (sym c.if-fits.ensures))
-    ∙ c.loop-k.invariant ∙ along m c.args.column test
-
-pub loop-k-preserved : goal.loop-k-preserved
-loop-k-preserved g c =
-    let m = g.G.Ground.meaning c.args.ground.now in
-    let test = fits (heights_by g.C.Tall.tallness c.args.columns.now) (label c.args.steps.now) c.args.n c.args.column in
-    sym (fails test (neighbours m c.args.column) c.loop-k.k c.in-Some.beside c.in-Some.ensures (sym c.if-fits.ensures)) ∙ c.loop-k.invariant
+use borrow.Author.Tests.{tests}
 
 pub returns : goal.returns
 returns g c =
-    let m = g.G.Ground.meaning c.args.ground.now in
+    let m = g.G.Ground.meaning in
     let test = fits (heights_by g.C.Tall.tallness c.args.columns.now) (label c.args.steps.now) c.args.n c.args.column in
-    let few = g.met.G.Ground.few c.args.ground.now c.args.column in
-    sym (all_seen test (neighbours m c.args.column) c.loop-k.k (omega (arith, few))) ∙ c.loop-k.invariant ∙ along m c.args.column test
+    sym (as_it_is c.find.result) ∙
+    find_from_yields_List test c.find.new.self _ c.find.result c.find.ensures.ran (YieldsList-from_first (λ x. x) (still_linked m) _ c.of.ensures) (λ x b q k. search (rules, tests)) ∙
+    along (m c.args.ground.now) c.args.column test

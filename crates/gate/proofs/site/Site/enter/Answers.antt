@@ -1,21 +1,12 @@
-use Rattle.std.proofs.Common.{Some, None, refl, ap, ◌∙◌}
-use Rattle.terms.specs.Refusals.{told_of}
+use Rattle.std.proofs.Common.{◌≡◌, Some, rules}
+use Rattle.terms.specs.Refusals.{told, refusal_in}
 use Rattle.gate.specs.declared.call.Call.TheVariants.{Enter}
-use Rattle.gate.specs.declared.column.Part.TheVariants.{Entering}
-use Rattle.gate.specs.declared.column.State.TheVariants.{Busy}
-use Rattle.gate.specs.Scene.{put, with_columns}
 use Rattle.gate.specs.View.{scene_of}
-use Rattle.gate.proofs.Deciding.{performed}
+use Rattle.gate.proofs.Deciding.{refused}
 use Rattle.gate.proofs.site.Site.enter.Goals as goal
 
-pub returns-in-Some : goal.returns-in-Some
-returns-in-Some g c =
-    let v = scene_of g.G.Ground.meaning c.args.self.now in
-    performed v (g.met.G.Ground.lawful c.args.self.now.ground) (Enter c.args.column c.args.block) (Some (told_of c.plain.result)) v (ap Some c.plain.ensures ∙ c.in-Some.ensures) refl
-
-pub returns : goal.returns
-returns g c =
-    let v = scene_of g.G.Ground.meaning c.args.self.now in
-    let k = Enter c.args.column c.args.block in
-    performed v (g.met.G.Ground.lawful c.args.self.now.ground) k None (scene_of g.G.Ground.meaning c.put.new.self) c.in_default.ensures
-    (c.put.ensures ∙ ap (λ n. with_columns v (put v.columns c.args.column (Busy (Entering c.args.block) n))) c.duration-left.ensures.value)
+pub returns-in_err-may_enter : goal.returns-in_err-may_enter
+returns-in_err-may_enter g c =
+    let t = told c.in_err-may_enter.field-0.0 0 0 in
+    let is : refusal_in c.from_residual.result ≡ Some t = search rules in
+    refused (scene_of c.args.self.now) (g.met.G.Ground.lawful c.args.self.now.floor) (Enter c.args.column c.args.block) (refusal_in c.from_residual.result) t is c.in_err-may_enter.ensures
