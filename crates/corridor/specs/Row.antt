@@ -1,5 +1,5 @@
 -- The corridor of n columns: they stand in a row, each linked with the next, and the two ends are border. Assumes nothing.
-use Rattle.std.specs.Prelude.{ℕ, ◌+◌, ◌≤◌, Bool, not, ◌&&◌, ◌||◌, List, [], ◌∷◌, Option, ◌==◌, nat_le, nat_lt}
+use Rattle.std.specs.Prelude.{ℕ, ◌+◌, ◌≤◌, not, ◌&&◌, ◌||◌, List, [], ◌∷◌, Option, ◌==◌, nat_le, nat_lt}
 use Rattle.terms.specs.declared.refusal.Rule.TheVariants.{BorderList}
 use Rattle.terms.specs.Refusals.{Reason, Told, first_of, told}
 use Rattle.ground.specs.Meaning.{Meaning}

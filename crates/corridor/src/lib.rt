@@ -1,12 +1,11 @@
 // A ground kind of one's own, as a model to copy: a corridor.
 #![tactic(auto)]
 
-ghost use Rattle.std.specs.Prelude.{◌≡◌, ◌≤◌, []};
+ghost use Rattle.std.specs.Prelude.{◌≡◌, ℕ, ◌≤◌, [], length};
 ghost use Rattle.terms.specs.Refusals.{Answers, Settles, refusal_in};
-ghost use Rattle.ground.specs.Meaning.{neighbours};
+ghost use Rattle.ground.specs.Meaning.{Lawful, neighbours};
 ghost use Rattle.ground.specs.Members.{onto};
 ghost use Rattle.corridor.specs.Row.{in_a_row, row_refusal, row_reasons};
-ghost use Rattle.corridor.specs.Lawful.{row_lawful, row_few};
 
 #[cfg(test)]
 mod tests;
@@ -14,12 +13,12 @@ mod tests;
 use ground::{Ground, MOST_COLUMNS};
 use terms::{Refusal, Rule};
 
-// Columns in a row, each linked with the next; the two ends are border.
+// Columns in a row, each linked with the next; the two ends are border. The laws of a ground are proved where one is made.
 #[derive(Clone, Copy)]
 pub struct Corridor {
     columns: u16,
-    ghost low: { 1 ≤ columns },
-    ghost high: { columns ≤ 256 },
+    ghost lawful: { Lawful (in_a_row columns) },
+    ghost few: { (c : ℕ) → length (neighbours (in_a_row columns) c) ≤ 2 },
 }
 
 impl Corridor {
@@ -35,7 +34,6 @@ impl Corridor {
     }
 
     // The column before a column and the one behind it, where there are such.
-    #[tactic(auto, using(crate::specs::Lawful::row_neighbours))]
     fn beside(&self, column: u16) -> (Option<u16>, Option<u16>)
         ensures { onto result.0 (onto result.1 []) ≡ neighbours (in_a_row self.now.columns) column }
     {
@@ -57,9 +55,9 @@ impl Ground for Corridor {
 
     ghost meaning = { λ c. in_a_row c.columns };
 
-    ghost lawful = { λ c. row_lawful c.columns c.low c.high };
+    ghost lawful = { λ c. c.lawful };
 
-    ghost few = { λ c d. row_few c.columns d };
+    ghost few = { λ c. c.few };
 
     fn columns(&self) -> u16 {
         self.columns
