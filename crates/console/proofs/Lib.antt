@@ -2,3 +2,6 @@ pub mod Cutting
 pub mod Lining
 pub mod Writing
 pub mod Homeward
+pub mod Clearing
+pub mod Session
+pub mod Opened

@@ -156,11 +156,11 @@ few_entries k skip [] = omega arith
 few_entries k zero (l ∷ ls) = let ih = few_entries (suc k) (below (said l) ls) ls in omega (arith, ih)
 few_entries k (suc skip) (l ∷ ls) = let ih = few_entries (suc k) skip ls in omega (arith, ih)
 
-pub within : (script : List ℕ) → too_long script ≡ false → (length script ≤ 65536) × (length (lines script) ≤ 8193) × (length (entries_in script) ≤ 8193)
+pub within : (script : List ℕ) → too_long script ≡ false → (length script ≤ 65536) × (length (lines script) ≤ 8193) × (length (entries_in script) ≤ 8193) × (count_by newline script ≤ 8192)
 within script e =
     let p = or_parts (ltb 65536 (length script)) (ltb 8192 (count_by newline script)) e in
     let short : length script ≤ 65536 = ltb-false _ _ p.0 in
     let few : count_by newline script ≤ 8192 = ltb-false _ _ p.1 in
     let ls = few_lines script in
     let es = few_entries 1 0 (lines script) in
-    (short, omega (arith, few, ls), omega (arith, few, ls, es))
+    (short, omega (arith, few, ls), omega (arith, few, ls, es), few)

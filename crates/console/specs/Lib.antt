@@ -5,4 +5,5 @@ pub mod Texts
 pub mod Drawing
 pub mod Halls
 pub mod Printed
+pub mod Sessions
 pub mod View

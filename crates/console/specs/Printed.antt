@@ -39,18 +39,34 @@ entry_opens e = worded e.words None (opens (opening_in e.words))
 abbrev pub entry_text : Entry → List ℕ
 entry_text e = worded e.words [] (labelled e.line (first_text (opening_in e.words)))
 
--- what is printed of lines: until one opens a site, and of those behind it by the site
-abbrev pub then_served : Option Opening → List Entry → List ℕ → List ℕ
-then_served None es closed = closed
-then_served (Some o) es closed = printed (opened_hall o) es
+-- the first opening that lines make, what is printed until then, and the lines behind it
+abbrev pub or_later : {X : Type 0} → Option Opening → X → X → X
+or_later None now later = later
+or_later (Some o) now later = now
 
-abbrev pub unopened : List Entry → List ℕ
-unopened [] = []
-unopened (e ∷ es) = entry_text e ++ then_served (entry_opens e) es (unopened es)
+abbrev pub found : List Entry → Option Opening
+found [] = None
+found (e ∷ es) = or_later (entry_opens e) (entry_opens e) (found es)
+
+abbrev pub first_part : List Entry → List ℕ
+first_part [] = []
+first_part (e ∷ es) = entry_text e ++ or_later (entry_opens e) [] (first_part es)
+
+abbrev pub behind_opening : List Entry → List Entry
+behind_opening [] = []
+behind_opening (e ∷ es) = or_later (entry_opens e) es (behind_opening es)
+
+-- what is printed of lines by the site that was opened
+abbrev pub served : Option Opening → List Entry → List ℕ
+served None es = []
+served (Some o) es = printed (opened_hall o) es
+
+abbrev pub all_printed : List Entry → List ℕ
+all_printed es = first_part es ++ served (found es) (behind_opening es)
 
 -- more than 65,536 bytes, or more than 8,192 newlines
 abbrev pub too_long : List ℕ → Bool
 too_long script = nat_lt 65536 (length script) || nat_lt 8192 (count_by (λ b. b == 10) script)
 
 unfoldable pub answered : List ℕ → List ℕ
-answered script = cond (too_long script) (codes "a script has at most 65536 bytes and 8192 newlines\n") (unopened (entries_in script))
+answered script = cond (too_long script) (codes "a script has at most 65536 bytes and 8192 newlines\n") (all_printed (entries_in script))

@@ -1,11 +1,12 @@
 // Answering a script, line by line.
-ghost use Rattle.std.specs.Prelude.{◌≡◌, ℕ, ◌+◌, ◌*◌, ◌<◌, ◌≤◌, List, ◌++◌, length, IfOk, MatchOption};
+ghost use Rattle.std.specs.Prelude.{◌≡◌, ℕ, ◌+◌, ◌*◌, ◌<◌, ◌≤◌, List, ◌++◌, length, IfOk, vec_len};
 ghost use Rattle.terms.specs.Refusals.{Answers};
 ghost use Rattle.terms.specs.View.{room_of, settings_of};
 ghost use Rattle.console.specs.Halls.{printed};
 ghost use Rattle.console.specs.Lines.{entries_in};
 ghost use Rattle.console.specs.Openings.{numbers_refusal, numbers_settings, opening_in, opening_refusal};
-ghost use Rattle.console.specs.Printed.{answered, entry_opens, entry_text, first_text, opens, too_long, unopened};
+ghost use Rattle.console.specs.Printed.{answered, behind_opening, entry_opens, entry_text, first_part, first_text, found, opens, too_long};
+ghost use Rattle.console.specs.Sessions.{Answered};
 ghost use Rattle.console.specs.View.{MadeBy, Makes, entry_of, made_hall, opening_of};
 
 use crate::desk::Desk;
@@ -135,7 +136,9 @@ fn open_entry(entry: &Entry<'_>, lists: &mut Lists, page: &mut Page) -> Option<M
 // Answers the lines of a script until one opens a site.
 fn find_opening(script: &mut Script<'_>, lists: &mut Lists, page: &mut Page) -> Option<Made>
     requires { length page.old + 3000 * length script.old ≤ 24579000 }
-    ensures text { MatchOption result (page.new ≡ page.old ++ unopened script.old) (λ m. (0 < (made_hall m).width) × (page.new ++ printed (made_hall m) script.new ≡ page.old ++ unopened script.old)) }
+    ensures page { page.new ≡ page.old ++ first_part script.old }
+    ensures made { MadeBy (found script.old) result }
+    ensures script { script.new ≡ behind_opening script.old }
     ensures room { length page.new + 3000 * length script.new ≤ 24579000 }
 {
     while let Some(entry) = script.next_entry() {
@@ -146,10 +149,42 @@ fn find_opening(script: &mut Script<'_>, lists: &mut Lists, page: &mut Page) -> 
     None
 }
 
+// Answers the lines of a script by the site that is opened.
+fn serve_made(made: Made, plot: Plot, sheets: Vec<Room>, script: &mut Script<'_>, page: &mut Page)
+    requires { (vec_len sheets ≡ 16) × (0 < (made_hall made).width) × (length page.old + 3000 * length script.old ≤ 24579000) }
+    ensures { page.new ≡ page.old ++ printed (made_hall made) script.old }
+{
+    match made {
+        Made::Square {
+            ground,
+            settings,
+            width,
+        } => {
+            let site = Site::open(plot, ground, settings);
+            let mut hall = Hall {
+                site,
+                sheets,
+                width,
+            };
+            serve(&mut hall, script, page);
+        }
+        Made::Listed { ground, settings } => {
+            let site = Site::open(plot, ground, settings);
+            let mut hall = Hall {
+                site,
+                sheets,
+                width: 16,
+            };
+            serve(&mut hall, script, page);
+        }
+    }
+}
+
 // What a script prints: its calls are made of the site that it opens, in order, and each line is answered by one line.
 #[tactic(auto, unfolding(crate::specs::Printed::answered))]
 pub fn answer(script: &[u8], desk: Desk) -> Vec<u8>
     ensures value { result.items ≡ answered script.now }
+    ensures words { Answered script.now result.items }
 {
     let Desk {
         plot,
@@ -163,38 +198,8 @@ pub fn answer(script: &[u8], desk: Desk) -> Vec<u8>
         return page.into_vec();
     }
     let mut script = Script::of(script);
-    match find_opening(&mut script, &mut lists, &mut page) {
-        Some(
-            Made::Square {
-                ground,
-                settings,
-                width,
-            },
-        ) => {
-            let site = Site::open(plot, ground, settings);
-            serve(
-                &mut Hall {
-                    site,
-                    sheets,
-                    width,
-                },
-                &mut script,
-                &mut page,
-            );
-        }
-        Some(Made::Listed { ground, settings }) => {
-            let site = Site::open(plot, ground, settings);
-            serve(
-                &mut Hall {
-                    site,
-                    sheets,
-                    width: 16,
-                },
-                &mut script,
-                &mut page,
-            );
-        }
-        None => {}
+    if let Some(made) = find_opening(&mut script, &mut lists, &mut page) {
+        serve_made(made, plot, sheets, &mut script, &mut page);
     }
     page.into_vec()
 }
