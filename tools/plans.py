@@ -166,10 +166,10 @@ class Crew:
         return job(*self.size) + self.sheet(**more)
 
 
-def wander(rng, crew, steps, minds_ways, lust):
-    """Robots enter and work at random for some steps, and then mostly go home. `lust` weighs the kinds of work."""
+def wander(rng, crew, steps, minds_ways, lust, ends=True):
+    """Robots enter and work at random for some steps, and then mostly go home, where it `ends`. `lust` weighs their works."""
     begun = crew.time
-    while crew.time < begun + steps or (crew.robots and crew.time < begun + 2 * steps + 60):
+    while crew.time < begun + steps or (ends and crew.robots and crew.time < begun + 2 * steps + 60):
         homewards = crew.time >= begun + steps
         idle = crew.idle()
         rng.shuffle(idle)
