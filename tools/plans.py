@@ -56,12 +56,13 @@ class Robot:
 class Crew:
     """Robots at work: what each may start, and the lines of what they started."""
 
-    def __init__(self, x, y, z, a, s):
+    def __init__(self, x, y, z, a, s, listed=None):
+        """On a square ground, or on the links and the border that are given."""
         self.size = (x, y, z, a, s)
-        self.links = links_of(x, y)
-        self.border = [min(c // y, x - 1 - c // y, c % y, y - 1 - c % y) == 0 for c in range(x * y)]
+        square = [min(c // y, x - 1 - c // y, c % y, y - 1 - c % y) == 0 for c in range(x * y)]
+        self.links, self.border = listed or (links_of(x, y), square)
         self.levels, self.most, self.durations = z, a, SETS[s]
-        self.heights = [0] * (x * y)
+        self.heights = [0] * len(self.border)
         self.robots, self.lines, self.time = [], [], 0
 
     def held(self):
