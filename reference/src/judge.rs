@@ -13,7 +13,7 @@ pub struct Figures {
 }
 
 /// The rules of a line by itself, 11 to 14.
-fn alone(act: &Act, ground: &Ground, settings: &Settings) -> Result<(), Refusal> {
+pub fn alone(act: &Act, ground: &Ground, settings: &Settings) -> Result<(), Refusal> {
     let one_of_two = act.from.is_none() != act.from_height.is_none() || act.to.is_none() != act.to_height.is_none();
     let outside = act.from.is_none() || act.to.is_none();
     refuse(one_of_two || (act.from.is_none() && act.to.is_none()) || (outside && act.letter != b'M'), 11)?;

@@ -10,4 +10,5 @@ pub mod recall;
 pub mod refusal;
 pub mod settings;
 pub mod sheet;
+pub mod swift;
 pub mod verdict;

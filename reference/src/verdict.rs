@@ -2,11 +2,11 @@
 
 use crate::gate::Site;
 use crate::ground::Ground;
-use crate::judge::judge;
+use crate::judge::Figures;
 use crate::play::play;
 use crate::refusal::{refuse, Refusal};
 use crate::settings::Settings;
-use crate::sheet::{read, Fields, LINE};
+use crate::sheet::{read, Fields, Sheet, LINE};
 
 fn job_line(bytes: &[u8]) -> Result<(Ground, Settings), Refusal> {
     refuse(bytes.len() < LINE, 6)?;
@@ -34,7 +34,9 @@ fn refused(word: &str, refusal: Refusal) -> String {
     line(word, [refusal.number, refusal.line, refusal.detail])
 }
 
-pub fn answer(job: &[u8]) -> String {
+type Judge = fn(&Sheet, &Ground, &Settings) -> Result<Figures, Refusal>;
+
+pub fn answer(job: &[u8], judge: Judge) -> String {
     let (ground, settings) = match job_line(job) {
         Ok(made) => made,
         Err(refusal) => return refused("BAD ", refusal),
