@@ -11,7 +11,7 @@ use plan::Action;
 use terms::{Refusal, Rule, Work};
 
 // Ticks from one time until another.
-fn wait<G: Ground>(site: &mut Site<G>, time: u32, until: u32)
+pub fn wait<G: Ground>(site: &mut Site<G>, time: u32, until: u32)
     ensures { scene_of site.new ≡ ticks (until - time) (scene_of site.old) }
 {
     for _tick in time..until {
@@ -27,7 +27,7 @@ fn is_running<G: Ground>(site: &Site<G>) -> bool
 }
 
 // Ticks until nothing runs.
-fn settle<G: Ground>(site: &mut Site<G>)
+pub fn settle<G: Ground>(site: &mut Site<G>)
     ensures { scene_of site.new ≡ settled (scene_of site.old) }
 {
     while is_running(site) {
