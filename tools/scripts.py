@@ -27,11 +27,13 @@ def listed_ground(rng):
     columns = rng.choice([1, 2, 5, 8, 12, 20, 40])
     pairs = [(c, d) for c in range(columns) for d in range(c + 1, columns)]
     rng.shuffle(pairs)
-    share = rng.choice([0, 0.1, 0.5])
+    share = rng.choice([0, 0, 0.1, 0.5])
     links, border = [[] for _ in range(columns)], [rng.random() < share for _ in range(columns)]
     border[rng.randrange(columns)] = True
-    if rng.random() < 0.4:
-        pairs = [(rng.randrange(c), c) for c in range(1, columns)] + pairs[:2]
+    tree = rng.random()
+    if tree < 0.6:
+        near = 2 if tree < 0.3 else columns
+        pairs = [(max(0, c - 1 - rng.randrange(near)), c) for c in range(1, columns)] + pairs[:1]
     for c, d in pairs[:rng.randint(columns, 3 * columns)]:
         if len(links[c]) < 6 and len(links[d]) < 6 and d not in links[c]:
             links[c].append(d)
@@ -132,7 +134,11 @@ class Script:
     def site(self):
         """Something on a fresh site: a robot on a tower or in a ring, or robots that wander about."""
         rng, crew = self.rng, self.crew
-        if not ring_or_stair(rng, crew):
+        if ring_or_stair(rng, crew):
+            return
+        if rng.random() < 0.5:
+            self.deep()
+        else:
             lust = {"wait": 1, "leave": 0.1, "move": 9, "lay": rng.choice([1, 9, 30]), "lift": 2, "enter": 0.5, "block": 0.8}
             plans.wander(rng, crew, rng.randint(5, 30), self.minds_ways, lust, ends=False)
 
@@ -149,6 +155,29 @@ class Script:
             self.say("recall")
         else:
             self.call(kind, column, to)
+
+    def deep(self):
+        """Robots walk inwards one after another; then one lays, or tries to, at each turn of its walk."""
+        rng, crew = self.rng, self.crew
+        border = [c for c, is_border in enumerate(crew.border) if is_border]
+        for turn in range(rng.randint(1, 4)):
+            free = [c for c in border if c not in crew.held()]
+            if not free or len(crew.robots) >= crew.most:
+                return
+            crew.enter(rng.choice(free), turn > 0)
+            robot = crew.robots[-1]
+            for _ in range(rng.randint(0, 6)):
+                while robot.until is not None:
+                    crew.tick()
+                options = crew.options(robot, False)
+                lays = [to for kind, to in options if kind == "lay"]
+                moves = [to for kind, to in options if kind == "move" and not crew.border[to]]
+                if lays and rng.random() < 0.5:
+                    self.call("lay", robot.column, rng.choice(lays))
+                elif moves:
+                    crew.begin(robot, "move", rng.choice(moves))
+            while robot.until is not None:
+                crew.tick()
 
     def clear(self):
         self.say("clear")
@@ -202,6 +231,8 @@ def random_script(rng):
         for _ in range(rng.randint(14, 20)):
             script.rows += [b"play\n", rng.choice([plans.end(0), plans.note() + plans.end(0), b"END \n", plans.end(1)])]
         script.rows += [rng.choice([b"play\n", b"play x\n"]), plans.end(0), b"look\n"]
+    if rng.random() < 0.01:
+        script.rows += [b"play\n", plans.note() * rng.choice([1498, 1499, 1500, 1501]), plans.end(0), b"look\n"]
     if rng.random() < 0.8:
         script.clear()
         script.say("look")
