@@ -229,7 +229,7 @@ def random_script(rng):
             script.enter(rng.choice([c for c, border in enumerate(script.crew.border) if border]))
     if rng.random() < 0.03:
         for _ in range(rng.randint(14, 20)):
-            script.rows += [b"play\n", rng.choice([plans.end(0), plans.note() + plans.end(0), b"END \n", plans.end(1)])]
+            script.rows += [b"play\n", rng.choice([plans.end(0), plans.note() + plans.end(0), b"END \n", b"END\n" + plans.end(1)])]
         script.rows += [rng.choice([b"play\n", b"play x\n"]), plans.end(0), b"look\n"]
     if rng.random() < 0.01:
         script.rows += [b"play\n", plans.note() * rng.choice([1498, 1499, 1500, 1501]), plans.end(0), b"look\n"]
