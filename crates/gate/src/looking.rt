@@ -2,12 +2,28 @@
 ghost use Rattle.std.specs.Prelude.{◌≡◌};
 ghost use Rattle.gate.specs.Scene.{at, robots, blocks_standing, blocks_carried};
 ghost use Rattle.gate.specs.View.{scene_of};
+ghost use Rattle.terms.specs.View.{settings_of};
 
 use crate::column::Column;
 use crate::site::Site;
 use ground::Ground;
+use terms::Settings;
 
 impl<G: Ground> Site<G> {
+    // The ground of the site.
+    pub fn ground(&self) -> &G
+        ensures { G.Ground.meaning result.now ≡ (scene_of self.now).meaning }
+    {
+        &self.floor
+    }
+
+    // The settings that the site was opened with.
+    pub fn settings(&self) -> &Settings
+        ensures { settings_of result.now ≡ (scene_of self.now).settings }
+    {
+        &self.settings
+    }
+
     // The height of a column and what is at it; past the columns all is free, at height 0.
     pub fn look(&self, column: u16) -> Column
         ensures { result ≡ at (scene_of self.now).columns column }

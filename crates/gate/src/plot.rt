@@ -4,11 +4,9 @@ ghost use Rattle.terms.specs.View.{room_of};
 ghost use Rattle.gate.specs.Column.{fresh};
 
 use crate::column::Column;
+use ground::MOST_COLUMNS;
 use std::alloc::{AllocError, Global};
 use terms::Reserve;
-
-// The most columns that a ground may have.
-const MOST_COLUMNS: usize = 256;
 
 #[derive(Drop)]
 pub struct Plot {

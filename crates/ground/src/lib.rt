@@ -21,6 +21,9 @@ pub use listed::Listed;
 pub use neighbours::Neighbours;
 pub use square::Square;
 
+// The most columns of a ground, of whatever kind.
+pub const MOST_COLUMNS: usize = 256;
+
 // A kind of ground. What it means is given by ghost members, and it tells just that.
 pub trait Ground {
     // The most links that a column of this kind may have, in code and in clauses.

@@ -4,11 +4,11 @@ ghost use Rattle.terms.specs.Refusals.{Answers, first_of};
 ghost use Rattle.job.specs.Jobs.{is_job, order, order_tests};
 
 use crate::order::Order;
-use sheet::number;
+use sheet::{LINE_LENGTH, number};
 use terms::{Refusal, Rule};
 
 // Whether a line begins with the word JOB and ends with a newline.
-fn is_job_line(line: &[u8; 35]) -> bool
+fn is_job_line(line: &[u8; LINE_LENGTH]) -> bool
     ensures { result ≡ is_job line.now }
 {
     matches!(line, [b'J', b'O', b'B', b' ', .., b'\n'])
@@ -18,7 +18,7 @@ fn is_job_line(line: &[u8; 35]) -> bool
 pub(crate) fn read_order(input: &[u8]) -> Result<Order, Refusal>
     ensures { Answers (first_of (order_tests input.now)) (λ o. (order input.now ≡ Ok o) × (35 ≤ length input.now)) result }
 {
-    let line = input.first_chunk::<35>().ok_or(Rule::SheetShape)?;
+    let line = input.first_chunk::<LINE_LENGTH>().ok_or(Rule::SheetShape)?;
     if !is_job_line(line) {
         return Err(Rule::LineShape.into());
     }

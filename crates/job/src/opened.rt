@@ -12,6 +12,7 @@ use crate::line::read_order;
 use crate::order::Order;
 use ground::Square;
 use judge::{Accepted, Room, judge};
+use sheet::LINE_LENGTH;
 use terms::{Refusal, Settings};
 
 #[derive(Drop)]
@@ -42,6 +43,6 @@ pub(crate) fn judge_job(input: &[u8], room: Room) -> Result<Judged, Refusal>
     ensures { Answers (job_refusal input.now) (Judges input.now) result }
 {
     let job = open_job(read_order(input)?)?;
-    let plan = judge(&job.ground, &job.settings, &input[35..], room)?;
+    let plan = judge(&job.ground, &job.settings, &input[LINE_LENGTH..], room)?;
     Ok(Judged { job, plan })
 }

@@ -18,14 +18,11 @@ ghost use Rattle.job.specs.View.{first_refusal, site_of};
 use crate::heights::Heights;
 use crate::opened::{Job, Judged};
 use gate::Site;
-use ground::Ground;
+use ground::{Ground, MOST_COLUMNS};
 use service::{Deed, Stage, perform};
 use std::alloc::{AllocError, Global};
 use terms::{Refusal, Reserve};
 use undertaking::{Answer, Performance};
-
-// The most columns of a ground.
-const MOST_COLUMNS: usize = 256;
 
 // The room that a plan is played in: a stage for one deed, and room for the heights afterwards.
 #[derive(Drop)]

@@ -7,7 +7,7 @@ use std::alloc::{AllocError, Global};
 use terms::Reserve;
 
 // The most actions that a sheet can have.
-pub(crate) const MOST_ACTIONS: usize = 1500;
+pub(crate) const MOST_ACTIONS: usize = sheet::MOST_LINES;
 
 #[derive(Drop)]
 pub struct Room {

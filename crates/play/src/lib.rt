@@ -4,4 +4,5 @@
 mod player;
 mod spent;
 
+pub use player::{settle, wait};
 pub use spent::play;

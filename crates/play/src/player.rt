@@ -28,7 +28,7 @@ fn is_running<G: Ground>(site: &Site<G>) -> bool
 
 // Ticks from one time until another. No work takes more than three timesteps: where nothing runs after four, the ticks that are
 // left would alter nothing, and are not made.
-fn wait<G: Ground>(site: &mut Site<G>, time: u32, until: u32)
+pub fn wait<G: Ground>(site: &mut Site<G>, time: u32, until: u32)
     ensures { scene_of site.new ≡ ticks (until - time) (scene_of site.old) }
 {
     let soon = until.min(time.saturating_add(4));
@@ -39,7 +39,7 @@ fn wait<G: Ground>(site: &mut Site<G>, time: u32, until: u32)
 }
 
 // Ticks until nothing runs.
-fn settle<G: Ground>(site: &mut Site<G>)
+pub fn settle<G: Ground>(site: &mut Site<G>)
     ensures { scene_of site.new ≡ settled (scene_of site.old) }
 {
     while is_running(site) {

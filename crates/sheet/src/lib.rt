@@ -14,8 +14,9 @@ mod unread;
 
 pub use field::number;
 pub use figure::tower_work;
+pub use line::LINE_LENGTH;
 pub use read::read_sheet;
 pub use record::{ActLine, Letter, Place, Side};
-pub use room::Room;
+pub use room::{MOST_LINES, Room};
 pub use sheet::Sheet;
 pub use target::Target;

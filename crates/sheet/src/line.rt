@@ -8,9 +8,9 @@ use crate::record::{Record, act_in, end_in, goal_in};
 use terms::{Refusal, Rule};
 
 // How many bytes a line has, with its newline.
-pub(crate) const LINE: usize = 35;
+pub const LINE_LENGTH: usize = 35;
 
-// A line of one of the four kinds: its number and the bytes of its fields. An enum of borrowed lines, a form that is asked for:
+// A line of one of the four kinds: its number and the bytes of its fields. An enum of borrowed lines, by a rule of the project:
 // what a kind of line holds is said at the kind.
 #[derive(Drop)]
 pub(crate) enum Line<'a> {
@@ -21,7 +21,7 @@ pub(crate) enum Line<'a> {
 }
 
 // The line of a number, where its bytes begin with a word and end with a newline.
-pub(crate) fn line_of(bytes: &[u8; LINE], number: u16) -> Option<Line<'_>>
+pub(crate) fn line_of(bytes: &[u8; LINE_LENGTH], number: u16) -> Option<Line<'_>>
     ensures { MatchOption result (word_in bytes.now ≡ None) (λ l. (word_in bytes.now ≡ Some (word_of l)) × (fields_of l ≡ fields bytes.now) × (place_of l ≡ number)) }
 {
     let (word, rest) = bytes.split_first_chunk::<4>()?;
@@ -46,7 +46,7 @@ fn is_printable(bytes: &[u8]) -> bool
 }
 
 // What the line of a number shows, or why it cannot be read.
-pub(crate) fn read_line(bytes: &[u8; LINE], number: u16) -> Result<Record, Refusal>
+pub(crate) fn read_line(bytes: &[u8; LINE_LENGTH], number: u16) -> Result<Record, Refusal>
     ensures { Answers (first_of (line_tests number bytes.now)) (λ x. record_in number bytes.now ≡ Some x) result }
 {
     let misshapen = Refusal::at(Rule::LineShape, number, 0);

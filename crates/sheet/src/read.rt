@@ -9,11 +9,10 @@ ghost use Rattle.sheet.specs.Reasons.{reading_reasons};
 ghost use Rattle.sheet.specs.View.{sheet_of, records_in};
 ghost use Rattle.sheet.specs.Reading.{goal_fits, place_tests, goals_of, acts_of, Small, bad_sheet, lines_in, reading_refusal};
 
-use crate::line::{LINE, read_line};
+use crate::line::read_line;
 use crate::reader::Reader;
 use crate::record::Record;
-use crate::room::MOST_LINES;
-use crate::{Room, Sheet, Target};
+use crate::{LINE_LENGTH, MOST_LINES, Room, Sheet, Target};
 use ground::Ground;
 use terms::{Refusal, Rule, Settings};
 
@@ -69,9 +68,9 @@ impl<'a, G: Ground> Reader<'a, G> {
     }
 
     // Reads the next line and adds what it shows, or says why not.
-    fn take_line(&mut self, bytes: &[u8; LINE]) -> Result<(), Refusal>
+    fn take_line(&mut self, bytes: &[u8; LINE_LENGTH]) -> Result<(), Refusal>
         requires more { self.old.lines < self.old.total }
-        ensures value { Answers (or_else (first_of (line_tests (self.old.lines + 1) bytes.now)) (first_of (place_tests (G.Ground.meaning self.old.ground.now) (settings_of self.old.settings.now) (self.old.lines + 1) (self.old.lines + 1 == self.old.total) self.old.targets.items (vec_len self.old.acts) (record_in (self.old.lines + 1) bytes.now)))) (λ _. (self.new.targets.items ≡ self.old.targets.items ++ goals_of (record_in (self.old.lines + 1) bytes.now)) × (self.new.acts.items ≡ self.old.acts.items ++ acts_of (record_in (self.old.lines + 1) bytes.now)) × (self.new.lines ≡ self.old.lines + 1)) result }
+        ensures value { let n = self.old.lines + 1 in let shown = record_in n bytes.now in Answers (or_else (first_of (line_tests n bytes.now)) (first_of (place_tests (G.Ground.meaning self.old.ground.now) (settings_of self.old.settings.now) n (n == self.old.total) self.old.targets.items (vec_len self.old.acts) shown))) (λ _. (self.new.targets.items ≡ self.old.targets.items ++ goals_of shown) × (self.new.acts.items ≡ self.old.acts.items ++ acts_of shown) × (self.new.lines ≡ n)) result }
         ensures total { self.new.total ≡ self.old.total }
         ensures same { (self.new.ground.now ≡ self.old.ground.now) × (self.new.settings.now ≡ self.old.settings.now) }
     {
@@ -84,7 +83,7 @@ impl<'a, G: Ground> Reader<'a, G> {
 }
 
 // The lines of a sheet, where it has some, all whole, and not too many.
-fn lines_of(sheet: &[u8]) -> Option<&[[u8; LINE]]>
+fn lines_of(sheet: &[u8]) -> Option<&[[u8; LINE_LENGTH]]>
     ensures { MatchOption result (bad_sheet sheet.now ≡ true) (λ lines. (bad_sheet sheet.now ≡ false) × (lines.now ≡ first_chunks 35 (lines_in sheet.now) sheet.now) × (length lines.now ≡ lines_in sheet.now) × (length lines.now ≤ 1500)) }
 {
     let (lines, rest) = sheet.as_chunks();

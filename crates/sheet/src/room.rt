@@ -7,7 +7,7 @@ use std::alloc::{AllocError, Global};
 use terms::Reserve;
 
 // The most lines that a sheet may have.
-pub(crate) const MOST_LINES: usize = 1500;
+pub const MOST_LINES: usize = 1500;
 
 // Room for what each line of the longest sheet may show.
 #[derive(Drop)]

@@ -1,0 +1,4 @@
+pub mod Cutting
+pub mod Lining
+pub mod Writing
+pub mod Homeward
