@@ -11,6 +11,7 @@ pub mod Marks
 pub mod Readings
 pub mod Ready
 pub mod Grants
+mod Idle
 pub mod Playing
 pub mod Freshness
 pub mod Turns

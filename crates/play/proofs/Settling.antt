@@ -20,7 +20,7 @@ left_runs Free l = absurd (omega arith)
 left_runs (Standing b) l = absurd (omega arith)
 left_runs (Busy p n) l = refl
 
-none_left : (z : State) → left z ≡ 0 → runs z ≡ false
+pub none_left : (z : State) → left z ≡ 0 → runs z ≡ false
 none_left Free l = refl
 none_left (Standing b) l = refl
 none_left (Busy p n) l = absurd (omega arith)

@@ -1,0 +1,93 @@
+-- Where nothing runs after a tick, a tick more alters nothing. Assumes nothing.
+use Rattle.std.proofs.Common.{◌≡◌, ℕ, zero, suc, ◌+◌, ◌<◌, ◌≤◌, false, cond, ltb, List, [], ◌∷◌, length, get_or, sym, refl, ap, ◌∙◌, subst, inl, inr, arith}
+use Rattle.std.proofs.lemmas.List.FromFn.{get_or-map-range_with_len, length-map-range_with_len}
+use Rattle.std.proofs.lemmas.List.{get_or_past}
+use Rattle.std.proofs.lemmas.Bool.{cases_lt, cond-true, cond-false, lt-ltb, le-ltb, true≢false}
+use Rattle.ground.specs.Meaning.{Meaning}
+use Rattle.gate.specs.declared.call.Call.TheVariants.{Tick}
+use Rattle.gate.specs.declared.column.Column.{Column}
+use Rattle.gate.specs.declared.column.State.{State}
+use Rattle.gate.specs.declared.column.State.TheVariants.{Free, Standing, Busy}
+use Rattle.gate.specs.Column.{column, fresh, runs, ticked}
+use Rattle.gate.specs.Gate.{step}
+use Rattle.gate.specs.Scene.{Columns, Scene, mark_of, renewed_marks, state_at, tick_all}
+use Rattle.play.specs.Play.{Quiet, longest, ticks}
+use Rattle.gate.proofs.Marks.{Renewed, all_renewed}
+use Rattle.play.proofs.Columns.{longest_is}
+use Rattle.play.proofs.Settling.{none_left, ticks_length}
+
+idle_column : (h : ℕ) (z : State) → runs z ≡ false → ticked (column h z) ≡ column h z
+idle_column h Free e = refl
+idle_column h (Standing b) e = refl
+idle_column h (Busy p n) e = absurd (true≢false e)
+
+idle_columns : (xs : Columns) → ((c : ℕ) → runs (state_at xs c) ≡ false) → tick_all xs ≡ xs
+idle_columns [] q = refl
+idle_columns (x ∷ xs) q = λ i. idle_column x.height x.state (q 0) i ∷ idle_columns xs (λ c. q (suc c)) i
+
+-- marks that were renewed are the same when they are renewed again
+renewed_twice : (xs : Columns) (n : ℕ) (old : List ℕ) → n ≤ 256 → renewed_marks n xs (renewed_marks n xs old) ≡ renewed_marks n xs old
+renewed_twice xs n old few = sym (all_renewed xs ms n ms (length-map-range_with_len g 0 256) again)
+  where
+    g : ℕ → ℕ
+    g c = cond (ltb c n) (mark_of xs c) (get_or old c 0)
+
+    ms : List ℕ
+    ms = renewed_marks n xs old
+
+    again : Renewed xs ms n ms
+    again e = elim (cases_lt e n) [
+      | inl l ↦ get_or-map-range_with_len g 0 256 e e 0 (omega arith) (omega arith) ∙ cond-true (ltb e n) (mark_of xs e) (get_or old e 0) (lt-ltb e n l)
+          ∙ sym (cond-true (ltb e n) (mark_of xs e) (get_or ms e 0) (lt-ltb e n l))
+      | inr m ↦ sym (cond-false (ltb e n) (mark_of xs e) (get_or ms e 0) (le-ltb e n m))
+    ]
+
+-- after a tick a quiet site stays as it is
+idle_tick : (u : Scene) → u.meaning.columns ≤ 256 → Quiet (step u Tick) → step (step u Tick) Tick ≡ step u Tick
+idle_tick u few q =
+    let xs : Columns = tick_all u.columns in
+    let e : tick_all xs ≡ xs = idle_columns xs q in
+    λ i. record {
+      meaning = u.meaning;
+      settings = u.settings;
+      columns = e i;
+      marks = (ap (λ (ys : Columns). renewed_marks u.meaning.columns ys (renewed_marks u.meaning.columns xs u.marks)) e
+          ∙ renewed_twice xs u.meaning.columns u.marks few) i;
+    }
+
+idle_ticks : (n : ℕ) (v : Scene) → step v Tick ≡ v → ticks n v ≡ v
+idle_ticks zero v e = refl
+idle_ticks (suc n) v e = ap (ticks n) e ∙ idle_ticks n v e
+
+ticks_meaning : (n : ℕ) (v : Scene) → (ticks n v).meaning ≡ v.meaning
+ticks_meaning zero v = refl
+ticks_meaning (suc n) v = ticks_meaning n (step v Tick)
+
+last_tick : (n : ℕ) (v : Scene) → ticks (suc n) v ≡ step (ticks n v) Tick
+last_tick zero v = refl
+last_tick (suc n) v = last_tick n (step v Tick)
+
+-- ticks after ticks
+pub ticks_on : (a b : ℕ) (v : Scene) → ticks b (ticks a v) ≡ ticks (a + b) v
+ticks_on zero b v = let n : b ≡ 0 + b = omega arith in ap (λ (k : ℕ). ticks k v) n
+ticks_on (suc a) b v = let n : suc (a + b) ≡ suc a + b = omega arith in ticks_on a b (step v Tick) ∙ ap (λ (k : ℕ). ticks k v) n
+
+-- where nothing runs after some ticks, so many more alter nothing
+pub idle_on : (a b : ℕ) (v : Scene) → 0 < a → v.meaning.columns ≤ 256 → length v.columns ≤ 256
+    → longest (ticks a v).columns 256 ≡ 0 → ticks a v ≡ ticks (a + b) v
+idle_on zero b v l few size e = absurd (omega arith)
+idle_on (suc n) b v l few size e = sym (idle_ticks b w same) ∙ ticks_on (suc n) b v
+  where
+    w : Scene
+    w = ticks (suc n) v
+
+    quiet : Quiet w
+    quiet c = elim (cases_lt c 256) [
+      | inl l ↦ none_left (state_at w.columns c) (omega (arith, longest_is w.columns 256 c l, e))
+      | inr g ↦ ap (λ (x : Column). runs x.state) (get_or_past w.columns c fresh (omega (arith, ticks_length (suc n) v)))
+    ]
+
+    same : step w Tick ≡ w
+    same =
+        subst (λ (x : Scene). step x Tick ≡ x) (sym (last_tick n v))
+        (idle_tick (ticks n v) (omega (arith, ap (λ (x : Meaning). x.columns) (ticks_meaning n v))) (subst Quiet (last_tick n v) quiet))
