@@ -3,7 +3,6 @@ use Rattle.std.proofs.Common.{◌≡◌, ℕ, zero, suc, ◌+◌, ◌<◌, ◌�
 use Rattle.std.proofs.lemmas.List.FromFn.{get_or-map-range_with_len, length-map-range_with_len}
 use Rattle.std.proofs.lemmas.List.{get_or_past}
 use Rattle.std.proofs.lemmas.Bool.{cases_lt, cond-true, cond-false, lt-ltb, le-ltb, true≢false}
-use Rattle.ground.specs.Meaning.{Meaning}
 use Rattle.gate.specs.declared.call.Call.TheVariants.{Tick}
 use Rattle.gate.specs.declared.column.Column.{Column}
 use Rattle.gate.specs.declared.column.State.{State}
@@ -59,35 +58,18 @@ idle_ticks : (n : ℕ) (v : Scene) → step v Tick ≡ v → ticks n v ≡ v
 idle_ticks zero v e = refl
 idle_ticks (suc n) v e = ap (ticks n) e ∙ idle_ticks n v e
 
-ticks_meaning : (n : ℕ) (v : Scene) → (ticks n v).meaning ≡ v.meaning
-ticks_meaning zero v = refl
-ticks_meaning (suc n) v = ticks_meaning n (step v Tick)
-
-last_tick : (n : ℕ) (v : Scene) → ticks (suc n) v ≡ step (ticks n v) Tick
-last_tick zero v = refl
-last_tick (suc n) v = last_tick n (step v Tick)
-
--- ticks after ticks
-pub ticks_on : (a b : ℕ) (v : Scene) → ticks b (ticks a v) ≡ ticks (a + b) v
-ticks_on zero b v = let n : b ≡ 0 + b = omega arith in ap (λ (k : ℕ). ticks k v) n
-ticks_on (suc a) b v = let n : suc (a + b) ≡ suc a + b = omega arith in ticks_on a b (step v Tick) ∙ ap (λ (k : ℕ). ticks k v) n
-
--- where nothing runs after some ticks, so many more alter nothing
-pub idle_on : (a b : ℕ) (v : Scene) → 0 < a → v.meaning.columns ≤ 256 → length v.columns ≤ 256
-    → longest (ticks a v).columns 256 ≡ 0 → ticks a v ≡ ticks (a + b) v
-idle_on zero b v l few size e = absurd (omega arith)
-idle_on (suc n) b v l few size e = sym (idle_ticks b w same) ∙ ticks_on (suc n) b v
+-- where nothing runs after a tick, so many more alter nothing
+pub idle_on : (n : ℕ) (v w : Scene) → w ≡ step v Tick → v.meaning.columns ≤ 256 → length v.columns ≤ 256 → longest w.columns 256 ≡ 0 → ticks n w ≡ w
+idle_on n v w e few size none = idle_ticks n w (ap (λ (u : Scene). step u Tick) e ∙ idle_tick v few quiet ∙ sym e)
   where
-    w : Scene
-    w = ticks (suc n) v
+    long : length w.columns ≤ 256
+    long = let same = ticks_length 1 v in let here : length w.columns ≡ length (step v Tick).columns = ap (λ (u : Scene). length u.columns) e in omega (arith, size, same, here)
 
-    quiet : Quiet w
-    quiet c = elim (cases_lt c 256) [
-      | inl l ↦ none_left (state_at w.columns c) (omega (arith, longest_is w.columns 256 c l, e))
-      | inr g ↦ ap (λ (x : Column). runs x.state) (get_or_past w.columns c fresh (omega (arith, ticks_length (suc n) v)))
+    quiet_here : Quiet w
+    quiet_here c = elim (cases_lt c 256) [
+      | inl l ↦ none_left (state_at w.columns c) (omega (arith, longest_is w.columns 256 c l, none))
+      | inr g ↦ ap (λ (x : Column). runs x.state) (get_or_past w.columns c fresh (omega (arith, long)))
     ]
 
-    same : step w Tick ≡ w
-    same =
-        subst (λ (x : Scene). step x Tick ≡ x) (sym (last_tick n v))
-        (idle_tick (ticks n v) (omega (arith, ap (λ (x : Meaning). x.columns) (ticks_meaning n v))) (subst Quiet (last_tick n v) quiet))
+    quiet : Quiet (step v Tick)
+    quiet = subst Quiet e quiet_here

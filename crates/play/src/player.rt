@@ -10,15 +10,6 @@ use ground::Ground;
 use plan::Action;
 use terms::{Refusal, Rule, Work};
 
-// Ticks from one time until another.
-fn pass<G: Ground>(site: &mut Site<G>, time: u32, until: u32)
-    ensures { scene_of site.new ≡ ticks (until - time) (scene_of site.old) }
-{
-    for _tick in time..until {
-        site.tick();
-    }
-}
-
 // Whether an action runs at some column; no ground has more than 256. Over all that there may be, since `settled` is stated so.
 fn is_running<G: Ground>(site: &Site<G>) -> bool
     ensures { result ≡ nat_lt 0 (longest (scene_of site.now).columns 256) }
@@ -26,15 +17,15 @@ fn is_running<G: Ground>(site: &Site<G>) -> bool
     (0..256).any(|column| site.look(column).state.runs())
 }
 
-// Ticks from one time until another. No work takes more than three timesteps: where nothing runs after four, the ticks that are
-// left would alter nothing, and are not made.
+// Ticks from one time until another. Where nothing runs after a tick, those that are left would alter nothing, and are not made.
 pub fn wait<G: Ground>(site: &mut Site<G>, time: u32, until: u32)
     ensures { scene_of site.new ≡ ticks (until - time) (scene_of site.old) }
 {
-    let soon = until.min(time.saturating_add(4));
-    pass(site, time, soon);
-    if soon < until && is_running(site) {
-        pass(site, soon, until);
+    for _tick in time..until {
+        site.tick();
+        if !is_running(site) {
+            return;
+        }
     }
 }
 

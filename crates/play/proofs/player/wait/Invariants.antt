@@ -1,7 +1,7 @@
 use Rattle.std.proofs.Common.{◌≡◌, ◌-◌}
 use Rattle.gate.specs.View.{scene_of}
 use Rattle.play.specs.Play.{ticks}
-use Rattle.play.proofs.player.pass.Given as goal
+use Rattle.play.proofs.player.wait.Given as goal
 
 -- the ticks that are left come to what all come to
 abbrev pub invariant-loop-tick : goal.invariant-loop-tick
