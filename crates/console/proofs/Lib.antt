@@ -5,3 +5,4 @@ pub mod Homeward
 pub mod Clearing
 pub mod Session
 pub mod Opened
+pub mod Spelled

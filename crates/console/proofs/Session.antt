@@ -27,6 +27,8 @@ use Rattle.console.specs.Halls.{Hall, after_line, answer_text, clearing, deeds, 
 use Rattle.console.specs.Lines.{Entry}
 use Rattle.console.specs.Texts.{reply_text}
 use Rattle.console.specs.Sessions.{Clears, Line, Lines, Session}
+use Rattle.console.specs.Spelling.{Spells}
+use Rattle.console.proofs.Spelled.{spelled_so, unread_so}
 use Rattle.console.proofs.Clearing.{calls_runs, clearing_runs, obeyed_home, same_ticks}
 
 -- deeds one after the other
@@ -87,29 +89,29 @@ module _ (m : Meaning) (s : SiteSettings) (law : Lawful m) (ok : Proper s) where
       × (scene_after h e.sheet r ≡ runs h.scene (deeds_of h e.sheet r))
 
   -- a sheet that is judged, and one more or one too many
-  judged : (h : Hall) (e : Entry) → command_in e.words ≡ Ok Play → 0 < h.sheets → (o : Option Told) → sheet_refusal h.scene e.sheet ≡ o
+  judged : (h : Hall) (e : Entry) → Spells e.words Play → 0 < h.sheets → (o : Option Told) → sheet_refusal h.scene e.sheet ≡ o
       → Line h e (playing o e.sheet) (replies_to h.scene (playing o e.sheet)) (reply_text (reply_by o h.scene e.sheet))
       × (scene_by o h.scene e.sheet ≡ runs h.scene (playing o e.sheet))
   judged h e c some None eo = (Line.plays (reply_by None h.scene e.sheet) c some eo, refl)
   judged h e c some (Some t) eo = (Line.bad_sheet t c some eo, refl)
 
-  plays_sheet : (h : Hall) (e : Entry) → command_in e.words ≡ Ok Play → (n : ℕ) → h.sheets ≡ n
+  plays_sheet : (h : Hall) (e : Entry) → Spells e.words Play → (n : ℕ) → h.sheets ≡ n
       → Line h e (sheet_deeds n h.scene e.sheet) (replies_to h.scene (sheet_deeds n h.scene e.sheet)) (sheet_text n h.scene e.sheet)
       × (sheet_scene n h.scene e.sheet ≡ runs h.scene (sheet_deeds n h.scene e.sheet))
   plays_sheet h e c zero en = (Line.no_sheet_left c en, refl)
   plays_sheet h e c (suc n) en = judged h e c (omega (arith, en)) (sheet_refusal h.scene e.sheet) refl
 
   does : (before : List Deed) (h : Hall) → h.scene ≡ runs (opened m s) before → (e : Entry) (r : Result Command Usage) → command_in e.words ≡ r → Does h e r
-  does before h eh e (Err u) c = (Line.unread u c, refl)
-  does before h eh e (Ok (Makes k)) c = (Line.makes k (reply_to h.scene (Deed.call k)) c, refl)
+  does before h eh e (Err u) c = (Line.unread u c (unread_so e.words u c), refl)
+  does before h eh e (Ok (Makes k)) c = (Line.makes k (reply_to h.scene (Deed.call k)) (spelled_so e.words (Makes k) c), refl)
   does before h eh e (Ok (Ticks n)) c =
-      (subst (λ rs. Line h e (replicate n (Deed.call Tick)) rs (codes "granted")) (sym (ticks_granted n h.scene)) (Line.ticks n c), sym (ticks_runs n h.scene))
+      (subst (λ rs. Line h e (replicate n (Deed.call Tick)) rs (codes "granted")) (sym (ticks_granted n h.scene)) (Line.ticks n (spelled_so e.words (Ticks n) c)), sym (ticks_runs n h.scene))
   does before h eh e (Ok Clear) c =
       let clears : Clears h.scene (clearing h.scene) (left (recall (settled h.scene))) =
       subst (λ u. Clears u (clearing u) (left (recall (settled u)))) (sym eh) (clears_after before) in
-      (Line.clears (clearing h.scene) _ _ c clears, sym (calls_runs (clearing h.scene) h.scene ∙ clearing_runs h.scene))
-  does before h eh e (Ok Look) c = (Line.looks c, refl)
-  does before h eh e (Ok Play) c = plays_sheet h e c h.sheets refl
+      (Line.clears (clearing h.scene) _ _ (spelled_so e.words Clear c) clears, sym (calls_runs (clearing h.scene) h.scene ∙ clearing_runs h.scene))
+  does before h eh e (Ok Look) c = (Line.looks (spelled_so e.words Look c), refl)
+  does before h eh e (Ok Play) c = plays_sheet h e (spelled_so e.words Play c) h.sheets refl
 
   -- lines, one after the other
   by_line : (before : List Deed) (h : Hall) → h.scene ≡ runs (opened m s) before → (k : ℕ) (ws : List (List ℕ)) (sheet : List ℕ) (es : List Entry)

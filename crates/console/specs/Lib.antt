@@ -4,6 +4,7 @@ pub mod Openings
 pub mod Texts
 pub mod Drawing
 pub mod Halls
+pub mod Spelling
 pub mod Printed
 pub mod Sessions
 pub mod View

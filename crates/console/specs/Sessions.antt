@@ -1,6 +1,6 @@
 -- What comes of a script, in words: the deeds that its lines name, in order, what they answer, and what is printed of each. Assumes
 -- nothing.
-use Rattle.std.specs.Prelude.{◌≡◌, ℕ, ◌<◌, ◌≤◌, ◌⊎◌, List, [], ◌∷◌, ◌++◌, length, map, replicate, count_by, Some, None, Ok, Err, codes, ◌==◌}
+use Rattle.std.specs.Prelude.{◌≡◌, ℕ, ◌<◌, ◌≤◌, ◌⊎◌, List, [], ◌∷◌, ◌++◌, length, map, replicate, count_by, Some, None, Err, codes, ◌==◌}
 use Rattle.terms.specs.Durations.{SiteSettings}
 use Rattle.terms.specs.Refusals.{Told}
 use Rattle.ground.specs.Meaning.{Meaning}
@@ -11,6 +11,7 @@ use Rattle.undertaking.specs.Obeying.{Empty, Obeyed, Quiet}
 use Rattle.undertaking.specs.Runs.{Reply, after_ticks, run}
 use Rattle.service.specs.Deeds.{Deed, runs}
 use Rattle.service.specs.Whole.{Whole}
+use Rattle.console.specs.declared.command.Command.{Command}
 use Rattle.console.specs.declared.command.Command.TheVariants.{Makes, Ticks, Clear, Look, Play}
 use Rattle.console.specs.declared.usage.Usage.{Usage}
 use Rattle.console.specs.declared.usage.Usage.TheVariants.{Open, FewerSheets}
@@ -20,6 +21,7 @@ use Rattle.console.specs.Halls.{Hall, after_line, cleared_text, sheet_plan, shee
 use Rattle.console.specs.Lines.{Entry, entries_in}
 use Rattle.console.specs.Openings.{Opening, opened_ground, opened_settings, opened_width, opening_in, opening_refusal}
 use Rattle.console.specs.Printed.{open_text}
+use Rattle.console.specs.Spelling.{Spells}
 use Rattle.console.specs.Texts.{expected_text, labelled, refusal_text, reply_text}
 
 -- clearing makes calls alone: by ticks nothing runs, then recall is obeyed, n actions are granted one after the other, and at the end
@@ -34,15 +36,15 @@ pub record Clears (v : Scene) (ks : List Call) (n : ℕ) : Type 0 where
 
 -- what a line with words does in a hall: its deeds, what they answer, and what is printed behind the line's number
 pub data Line (h : Hall) (e : Entry) : List Deed → List Reply → List ℕ → Type 0 where
-  unread : (u : Usage) → command_in e.words ≡ Err u → Line h e [] [] (expected_text u)
-  makes : (k : Call) (r : Reply) → command_in e.words ≡ Ok (Makes k) → Line h e (Deed.call k ∷ []) (r ∷ []) (reply_text r)
-  ticks : (n : ℕ) → command_in e.words ≡ Ok (Ticks n) → Line h e (replicate n (Deed.call Tick)) (replicate n Reply.granted) (codes "granted")
-  clears : (ks : List Call) (rs : List Reply) (n : ℕ) → command_in e.words ≡ Ok Clear → Clears h.scene ks n → Line h e (map Deed.call ks) rs (cleared_text n)
-  looks : command_in e.words ≡ Ok Look → Line h e [] [] (counts_text h.scene ++ drawing h.width h.scene)
-  plays : (r : Reply) → command_in e.words ≡ Ok Play → 0 < h.sheets → sheet_refusal h.scene e.sheet ≡ None
+  unread : (u : Usage) → command_in e.words ≡ Err u → ((k : Command) → Spells e.words k → ⊥) → Line h e [] [] (expected_text u)
+  makes : (k : Call) (r : Reply) → Spells e.words (Makes k) → Line h e (Deed.call k ∷ []) (r ∷ []) (reply_text r)
+  ticks : (n : ℕ) → Spells e.words (Ticks n) → Line h e (replicate n (Deed.call Tick)) (replicate n Reply.granted) (codes "granted")
+  clears : (ks : List Call) (rs : List Reply) (n : ℕ) → Spells e.words Clear → Clears h.scene ks n → Line h e (map Deed.call ks) rs (cleared_text n)
+  looks : Spells e.words Look → Line h e [] [] (counts_text h.scene ++ drawing h.width h.scene)
+  plays : (r : Reply) → Spells e.words Play → 0 < h.sheets → sheet_refusal h.scene e.sheet ≡ None
       → Line h e (Deed.plays (sheet_plan e.sheet) ∷ []) (r ∷ []) (reply_text r)
-  bad_sheet : (t : Told) → command_in e.words ≡ Ok Play → 0 < h.sheets → sheet_refusal h.scene e.sheet ≡ Some t → Line h e [] [] (refusal_text t)
-  no_sheet_left : command_in e.words ≡ Ok Play → h.sheets ≡ 0 → Line h e [] [] (expected_text FewerSheets)
+  bad_sheet : (t : Told) → Spells e.words Play → 0 < h.sheets → sheet_refusal h.scene e.sheet ≡ Some t → Line h e [] [] (refusal_text t)
+  no_sheet_left : Spells e.words Play → h.sheets ≡ 0 → Line h e [] [] (expected_text FewerSheets)
 
 -- what lines do in a hall, one after the other; each finds the site as the deeds above left it
 pub data Lines : Hall → List Entry → List Deed → List Reply → List ℕ → Type 0 where
