@@ -238,7 +238,8 @@ def random_script(rng):
         script.say("look")
     data = b"".join(script.rows)
     if rng.random() < 0.01:
-        data = (data * (65_536 // len(data) + 1))[:rng.choice([65_535, 65_536, 65_537, 70_000])]
+        end = rng.choice([65_535, 65_536, 65_537, 70_000, None])
+        data = (data * (65_536 // len(data) + 1))[:end] if end else data + b"\n" * (rng.choice([8_191, 8_192, 8_193]) - data.count(b"\n"))
     return data[:-1] if rng.random() < 0.05 else data
 
 
