@@ -187,8 +187,10 @@ class Script:
         self.crew.silent, self.crew.robots = False, []
 
     def play(self):
-        """A sheet for a fresh site, accepted or broken; what else a site may be asked follows."""
-        rng, crew = self.rng, plans.Crew(*self.crew.size, listed=(self.crew.links, self.crew.border))
+        """A sheet for a fresh site, accepted or broken, at times with more robots than there may be."""
+        rng, (x, y, levels, most, durations) = self.rng, self.crew.size
+        most += rng.choice([0, 0, 0, 0, 1, 3])
+        crew = plans.Crew(x, y, levels, most, durations, listed=(self.crew.links, self.crew.border))
         lust = {"wait": 0.5, "leave": 0.4, "move": 2, "lay": rng.choice([0, 1, 9]), "lift": 3, "enter": 0.5, "block": 0.6}
         ring_or_stair(rng, crew)
         plans.wander(rng, crew, rng.randint(0, 12), rng.random() < 0.3, lust)
@@ -198,7 +200,7 @@ class Script:
         if rng.random() < 0.4:
             whole = plans.broken(rng, plans.job() + sheet)
             sheet = whole[plans.LINE:]
-        elif not self.crew.robots and not any(self.crew.heights):
+        elif most == self.crew.most and not self.crew.robots and not any(self.crew.heights):
             self.crew.heights = list(crew.heights)
         self.say(rng.choice(["play"] * 9 + [" play ", "play now"]))
         self.rows.append(sheet)
@@ -238,7 +240,8 @@ def random_script(rng):
         script.say("look")
     data = b"".join(script.rows)
     if rng.random() < 0.01:
-        data = (data * (65_536 // len(data) + 1))[:rng.choice([65_535, 65_536, 65_537, 70_000])]
+        end = rng.choice([65_535, 65_536, 65_537, 70_000, None])
+        data = (data * (65_536 // len(data) + 1))[:end] if end else data + b"\n" * (rng.choice([8_191, 8_192, 8_193]) - data.count(b"\n"))
     return data[:-1] if rng.random() < 0.05 else data
 
 

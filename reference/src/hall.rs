@@ -8,7 +8,8 @@ use crate::refusal::Refusal;
 use crate::settings::Settings;
 use crate::sheet::{number, read};
 
-pub const MOST_BYTES: usize = 65_536;
+const MOST_BYTES: usize = 65_536;
+const MOST_NEWLINES: usize = 8_192;
 const MOST_SHEETS: usize = 16;
 
 const OPEN: &str = "open square X Y LEVELS ROBOTS SET or open listed COLUMNS LEVELS ROBOTS SET BORDER LINK ..";
@@ -57,13 +58,14 @@ fn opening(words: &[&[u8]]) -> Option<(Result<Ground, Refusal>, [usize; 3])> {
             Some((Ground::square(n[0], n[1]), [n[2], n[3], n[4]]))
         }
         [b"open", b"listed", rest @ ..] if rest.len() >= 5 => {
-            let n = numbers(&rest[..4])?;
+            let columns = column(rest[0])?;
+            let n = numbers(&rest[1..4])?;
             let border = rest[4];
             let links = rest[5..].iter().map(|w| link(w)).collect::<Option<Vec<_>>>()?;
             if border.iter().any(|&b| b != b'0' && b != b'1') {
                 return None;
             }
-            Some((Ground::listed(n[0], border, &links), [n[1], n[2], n[3]]))
+            Some((Ground::listed(columns, border, &links), [n[0], n[1], n[2]]))
         }
         _ => None,
     }
@@ -180,9 +182,13 @@ fn sheet_lines(lines: &[&[u8]]) -> usize {
     lines.iter().position(|l| l.starts_with(b"END ")).map_or(lines.len(), |last| last + 1)
 }
 
+fn is_too_long(script: &[u8]) -> bool {
+    script.len() > MOST_BYTES || script.iter().filter(|&&b| b == b'\n').count() > MOST_NEWLINES
+}
+
 pub fn answer(script: &[u8]) -> String {
-    if script.len() > MOST_BYTES {
-        return format!("a script has at most {MOST_BYTES} bytes\n");
+    if is_too_long(script) {
+        return format!("a script has at most {MOST_BYTES} bytes and {MOST_NEWLINES} newlines\n");
     }
     let lines: Vec<&[u8]> = script.split_inclusive(|&b| b == b'\n').collect();
     let (mut hall, mut text, mut next) = (Hall::default(), String::new(), 0);
