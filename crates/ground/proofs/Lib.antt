@@ -1,3 +1,4 @@
+pub mod Coordinates
 pub mod Among
 pub mod Picks
 pub mod EmptyPlaces

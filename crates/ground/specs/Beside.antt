@@ -7,7 +7,7 @@ use Rattle.std.proofs.lemmas.Bool.Decides.{Decides-and, Decides-at, Decides-eqb,
 use Rattle.ground.specs.Meaning.{neighbours}
 use Rattle.ground.specs.Members.{has, onto, somes}
 use Rattle.ground.specs.Sides.{sides_of, where_so}
-use Rattle.ground.specs.Squared.{near, squared}
+use Rattle.ground.specs.Squared.{Near, near, squared}
 use Rattle.ground.specs.Rises.{Rising, kept_rising, rising_lower}
 
 -- one more in front where a test holds
@@ -94,10 +94,6 @@ module _ (y c n : ℕ) (low : 1 ≤ y) where
   four_decides d =
       Decides-at (has d four) _ (has_four d)
       (Decides-or _ _ (Decides-and _ _ (decides_leb y c) (Decides-eqb d (c - y))) (Decides-or _ _ (Decides-and _ _ (Decides-ltb 0 (c % y)) (Decides-eqb d (c - 1))) (Decides-or _ _ (Decides-and _ _ (Decides-ltb (c % y + 1) y) (Decides-eqb d (c + 1))) (Decides-and _ _ (Decides-ltb (c + y) n) (Decides-eqb d (c + y))))))
-
--- two places that differ by one in just one coordinate
-abbrev Near : ℕ → ℕ → ℕ → ℕ → Type 0
-Near i j k l = ((i ≡ k) × ((j + 1 ≡ l) ⊎ (l + 1 ≡ j))) ⊎ ((j ≡ l) × ((i + 1 ≡ k) ⊎ (k + 1 ≡ i)))
 
 pub near_decides : (i j k l : ℕ) → Decides (near i j k l) (Near i j k l)
 near_decides i j k l =

@@ -1,9 +1,9 @@
 // Making a square ground, and what it tells.
-ghost use Rattle.std.specs.Prelude.{◌≡◌, ◌≤◌};
+ghost use Rattle.std.specs.Prelude.{◌≡◌, ◌≤◌, IfOk};
 ghost use Rattle.terms.specs.Refusals.{Answers, Settles, refusal_in};
 ghost use Rattle.ground.specs.Meaning.{neighbours};
 ghost use Rattle.ground.specs.Members.{somes};
-ghost use Rattle.ground.specs.Squared.{squared, square_refusal, square_reasons};
+ghost use Rattle.ground.specs.Squared.{IsSquare, squared, square_refusal, square_reasons};
 ghost use Rattle.ground.specs.Sides.{sides_of};
 ghost use Rattle.ground.specs.View.{square_of};
 ghost use Rattle.ground.specs.Lawful.{square_lawful};
@@ -17,6 +17,7 @@ impl Square {
     // The square ground of x by y columns, where x and y are 1 to 16; the numbers may be any.
     pub fn new(x: u32, y: u32) -> Result<Square, Refusal>
         ensures value { Answers (square_refusal x y) (λ s. square_of s ≡ squared x y) result }
+        ensures means { IfOk result (λ s. IsSquare x y (square_of s)) }
         ensures words { Settles (square_reasons x y) (refusal_in result) }
     {
         if !(1..=16).contains(&x) || !(1..=16).contains(&y) {

@@ -2,14 +2,14 @@
 use Rattle.std.specs.Prelude.{◌≡◌, ℕ, ◌<◌, ◌≤◌, List, length, Some, None, Decides}
 use Rattle.terms.specs.Durations.{SiteSettings}
 use Rattle.terms.specs.Refusals.{told}
-use Rattle.terms.specs.declared.refusal.Rule.TheVariants.{NoWayHome}
+use Rattle.terms.specs.declared.refusal.Rule.TheVariants.{NoWayHome, NotFresh}
 use Rattle.ground.specs.Meaning.{Lawful, Meaning}
 use Rattle.gate.specs.declared.column.State.TheVariants.{Free}
 use Rattle.gate.specs.Scene.{Scene, height_at, opened, state_at}
 use Rattle.plan.specs.Judged.{Timed}
 use Rattle.plan.specs.Plan.{Action, line}
 use Rattle.plan.specs.Rules.{Rules}
-use Rattle.play.specs.Play.{Blank, Fresh, Outcome, Played, Settles, is_fresh, play}
+use Rattle.play.specs.Play.{Blank, Fresh, Outcome, Played, Settles, is_fresh, play, play_on}
 use Rattle.play.specs.Shown.{Described}
 use Rattle.play.specs.Strands.{Strands, StrandsLowest}
 
@@ -33,6 +33,10 @@ pub record PlaysStand : Type 0 where
   pub opens_blank : (m : Meaning) (s : SiteSettings) → Blank (opened m s)
   -- the test for a fresh site says what fresh means
   pub fresh_words : (v : Scene) → Decides (is_fresh v) (Fresh v)
+  -- on a fresh site play begins at time 0, and any other stays as it is, refused with 33
+  pub on_fresh : (actions : List Action) (v : Scene) → Fresh v → play_on actions v ≡ play actions 0 v
+  pub on_other : (actions : List Action) (v : Scene) → (Fresh v → ⊥)
+      → play_on actions v ≡ record { answer = Some (told NotFresh 0 0); site = v }
   -- ticking until nothing runs ends
   pub settles : (v : Scene) → length v.columns ≤ 256 → Settles v
   -- play is what its relation says, of every list of actions

@@ -1,9 +1,6 @@
 -- Where a site is fresh after deeds, a plan that keeps the rules comes to what its lines say. Assumes nothing.
-use Rattle.std.proofs.Common.{◌≡◌, ℕ, true, false, List, Some, sym, ap, ◌∙◌, subst, arith}
-use Rattle.std.proofs.lemmas.Bool.{cond-true}
+use Rattle.std.proofs.Common.{◌≡◌, ℕ, true, false, List, sym, ap, ◌∙◌, subst, arith}
 use Rattle.terms.specs.Durations.{SiteSettings}
-use Rattle.terms.specs.Refusals.{told}
-use Rattle.terms.specs.declared.refusal.Rule.TheVariants.{NotFresh}
 use Rattle.terms.specs.declared.work.Work.TheVariants.{Entry, Leave, Wait, Move, PickUp, Deliver}
 use Rattle.ground.specs.Meaning.{Lawful, Meaning}
 use Rattle.gate.specs.Scene.{Columns, Scene, opened}
@@ -16,7 +13,7 @@ use Rattle.undertaking.proofs.Scenes.{opened_scene, run_scene, scene}
 use Rattle.plan.specs.Judged.{Timed}
 use Rattle.plan.specs.Plan.{Action}
 use Rattle.plan.specs.Rules.{Rules}
-use Rattle.play.specs.Play.{Fresh, Outcome, is_fresh, play, play_on}
+use Rattle.play.specs.Play.{Fresh, Outcome, play_on}
 use Rattle.play.specs.Stands.{Comes, Usable}
 use Rattle.play.proofs.Standing.{plays_stand}
 use Rattle.service.specs.Deeds.{Deed, runs, calls_by_all}
@@ -44,8 +41,7 @@ module _ (m : Meaning) (s : SiteSettings) (law : Lawful m) (ok : Proper s) where
   plays_well xs k fresh plan targets rules =
       let v = scene m s xs in
       let C : Outcome → Type 0 = Comes m s plan targets in
-      let is : play_on plan v ≡ play plan 0 v = cond-true (is_fresh v) (play plan 0 v) (record { answer = Some (told NotFresh 0 0); site = v }) ((plays_stand.fresh_words v).1 fresh) in
-      subst C (sym is) (plays_stand.comes v plan targets law (usable s ok) rules (blank_so m s law ok xs k fresh))
+      subst C (sym (plays_stand.on_fresh plan v fresh)) (plays_stand.comes v plan targets law (usable s ok) rules (blank_so m s law ok xs k fresh))
 
   -- after deeds, a site that is read by its columns
   unfoldable columns_after : List Deed → Columns
