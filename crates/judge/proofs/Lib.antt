@@ -1,5 +1,7 @@
 pub mod Searches
 pub mod Lowest
+pub mod Recent
+pub mod Past
 pub mod Chains
 pub mod Left
 pub mod Tested

@@ -37,3 +37,9 @@ pub record Settled (m : Meaning) (above : List Action) : Type 0 where
   pub grounded : (i : ℕ) → i < length above → end_column (line above i) < m.columns
   pub carried_on : (i : ℕ) → i < length above → (line above i).work ≢ Leave → (line above i).end < latest_start above
       → Carried above (line above i).end (end_column (line above i))
+
+-- the first n actions ended before the time t
+pub record Passed (plan : List Action) (t n : ℕ) : Type 0 where
+  pub within : n ≤ length plan
+  pub ordered : (i : ℕ) → i < n → (line plan i).start < (line plan i).end
+  pub ended : (i : ℕ) → i < n → (line plan i).end < t

@@ -31,12 +31,12 @@ fn judge_lines<G: Ground>(
 ) -> Result<Actions, Refusal>
     ensures { Answers (first_of (from_on (tests_at (G.Ground.meaning ground.now) (settings_of settings.now) sheet.now.acts.items) 0 (length sheet.now.acts.items))) (λ a. plan_of a.list.items ≡ written_plan sheet.now.acts.items) result }
 {
-    let mut list = room.into_vec();
+    let mut above = Actions::none(room);
     for line in &sheet.acts {
-        let action = judge_line(ground, settings, list.as_slice(), line)?;
-        list.push_reserved(action);
+        let action = judge_line(ground, settings, &above, line)?;
+        above.push(action);
     }
-    Ok(Actions { list })
+    Ok(above)
 }
 
 // Refuses a plan by the first rule that it breaks at the end of its sheet, if it breaks one.
