@@ -2,6 +2,8 @@ pub mod Searches
 pub mod Lowest
 pub mod Recent
 pub mod Past
+pub mod Heights
+pub mod Settling
 pub mod Chains
 pub mod Left
 pub mod Tested
@@ -10,7 +12,6 @@ pub mod Reasoned
 pub mod Silence
 pub mod Exact
 pub mod Ended
-pub mod Settling
 pub mod Through
 pub mod Timely
 pub mod Verdict

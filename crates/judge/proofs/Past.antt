@@ -1,14 +1,18 @@
 -- Actions that have passed: with more time, with one action more, and one more of them. Assumes nothing.
-use Rattle.std.proofs.Common.{◌≡◌, ℕ, ◌+◌, ◌<◌, ◌≤◌, ◌⊎◌, List, [], ◌∷◌, ◌++◌, length, sym, subst, inl, inr, arith}
+use Rattle.std.proofs.Common.{◌≡◌, ℕ, ◌+◌, ◌-◌, ◌<◌, ◌≤◌, ◌⊎◌, List, [], ◌∷◌, ◌++◌, length, sym, ap, subst, inl, inr, arith}
 use Rattle.std.proofs.lemmas.Bool.{cases_lt}
-use Rattle.std.proofs.lemmas.List.{get_or_append_left, length_push}
+use Rattle.std.proofs.lemmas.List.{get_or_append_left, get_or_push, length_push}
 use Rattle.plan.specs.Plan.{Action, line, no_action}
 use Rattle.judge.specs.Finding.{Passed}
+use Rattle.judge.specs.Judging.{latest_start}
 
 pub passed_none : (plan : List Action) (t : ℕ) → Passed plan t 0
 passed_none plan t = record { within = omega arith; ordered = λ i l. absurd (omega arith); ended = λ i l. absurd (omega arith) }
 
 -- by a later time, below one action more
+pub latest_push : (plan : List Action) (a : Action) → latest_start (plan ++ (a ∷ [])) ≡ a.start
+latest_push plan a = ap (λ (x : Action). x.start) (get_or_push plan a no_action (length (plan ++ (a ∷ [])) - 1) (omega (arith, length_push plan a)))
+
 pub passed_push : (plan : List Action) (a : Action) (t u n : ℕ) → t ≤ u → Passed plan t n → Passed (plan ++ (a ∷ [])) u n
 passed_push plan a t u n late past =
     record {

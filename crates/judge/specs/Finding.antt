@@ -1,5 +1,5 @@
 -- What searches over actions find: the first of some kind, and the lowest column. Assumes nothing.
-use Rattle.std.specs.Prelude.{◌≡◌, ℕ, ◌<◌, ◌≤◌, min, Bool, true, cond, not, ◌&&◌, ◌≢◌, List, [], ◌∷◌, length, Some, None, Option, nat_le, nat_lt}
+use Rattle.std.specs.Prelude.{◌≡◌, ℕ, ◌+◌, ◌<◌, ◌≤◌, min, Bool, true, cond, not, ◌&&◌, ◌≢◌, List, [], ◌∷◌, length, take, count_by, slice_index_or, slice_set, Some, None, Option, nat_le, nat_lt}
 use Rattle.std.specs.Option.{option_map}
 use Rattle.terms.specs.declared.work.Work.TheVariants.{Leave}
 use Rattle.ground.specs.Meaning.{Meaning}
@@ -43,3 +43,12 @@ pub record Passed (plan : List Action) (t n : ℕ) : Type 0 where
   pub within : n ≤ length plan
   pub ordered : (i : ℕ) → i < n → (line plan i).start < (line plan i).end
   pub ended : (i : ℕ) → i < n → (line plan i).end < t
+
+-- the first n actions, which end before the time t, count for each column as a list of numbers says, from t on
+pub record Tally (p : ℕ → ℕ → Action → Bool) (plan : List Action) (t n : ℕ) (counts : List ℕ) : Type 0 where
+  pub wide : length counts ≡ 256
+  pub counted : (c u : ℕ) → c < 256 → t ≤ u → count_by (p u c) (take n plan) ≡ slice_index_or counts c 0
+
+-- one more at the column c
+abbrev pub raised : List ℕ → ℕ → List ℕ
+raised counts c = slice_set counts c (slice_index_or counts c 0 + 1)

@@ -1,14 +1,15 @@
 // The rules of a plan at the sheet's end.
-ghost use Rattle.std.specs.Prelude.{◌≡◌, ℕ, [], ◌∷◌};
+ghost use Rattle.std.specs.Prelude.{◌≡◌, ℕ, ◌<◌, ◌≤◌, [], ◌∷◌};
 ghost use Rattle.std.specs.Option.{option_map};
 ghost use Rattle.terms.specs.Refusals.{first_of, from_on, told};
 ghost use Rattle.terms.specs.declared.refusal.Rule.TheVariants.{TargetMissed};
 ghost use Rattle.plan.specs.Rules.{target_of};
 ghost use Rattle.plan.specs.View.{plan_of};
 ghost use Rattle.judge.specs.Finding.{find, line_in};
-ghost use Rattle.judge.specs.Judging.{left_behind, missed};
+ghost use Rattle.judge.specs.Judging.{latest_start, left_behind, missed};
 
 use crate::above::{height_at, is_left_behind};
+use crate::actions::Actions;
 use plan::Action;
 use sheet::Target;
 
@@ -34,8 +35,10 @@ fn target_of(targets: &[Target], column: u16) -> u8
 }
 
 // Whether the height of a column at a time is not its target.
-fn is_missed(actions: &[Action], targets: &[Target], time: u32, column: u16) -> bool
-    ensures { result ≡ missed (plan_of actions.now) (target_of targets.now) time column }
+fn is_missed(actions: &Actions, targets: &[Target], time: u32, column: u16) -> bool
+    requires column { column < 256 }
+    requires time { latest_start (plan_of actions.now.list.items) ≤ time }
+    ensures { result ≡ missed (plan_of actions.now.list.items) (target_of targets.now) time column }
 {
     height_at(actions, time, column) != usize::from(target_of(targets, column))
 }
@@ -43,11 +46,13 @@ fn is_missed(actions: &[Action], targets: &[Target], time: u32, column: u16) -> 
 // The lowest column whose height at a time is not its target.
 pub(crate) fn first_missed(
     columns: u16,
-    actions: &[Action],
+    actions: &Actions,
     targets: &[Target],
     time: u32,
 ) -> Option<u16>
-    ensures { (lines : ℕ) → first_of (from_on (λ c. (missed (plan_of actions.now) (target_of targets.now) time c, told TargetMissed lines c) ∷ []) 0 columns) ≡ option_map (told TargetMissed lines) result }
+    requires columns { columns ≤ 256 }
+    requires time { latest_start (plan_of actions.now.list.items) ≤ time }
+    ensures { (lines : ℕ) → first_of (from_on (λ c. (missed (plan_of actions.now.list.items) (target_of targets.now) time c, told TargetMissed lines c) ∷ []) 0 columns) ≡ option_map (told TargetMissed lines) result }
 {
     (0..columns).find(|column| is_missed(actions, targets, time, *column))
 }

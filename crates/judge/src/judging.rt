@@ -40,13 +40,14 @@ fn judge_lines<G: Ground>(
 }
 
 // Refuses a plan by the first rule that it breaks at the end of its sheet, if it breaks one.
-fn judge_end<G: Ground>(ground: &G, actions: &[Action], sheet: &Sheet) -> Result<(), Refusal>
-    ensures { refusal_in result ≡ first_of (end_tests (G.Ground.meaning ground.now) (plan_of actions.now) (target_of sheet.now.targets.items) sheet.now.lines) }
+fn judge_end<G: Ground>(ground: &G, actions: &Actions, sheet: &Sheet) -> Result<(), Refusal>
+    ensures { refusal_in result ≡ first_of (end_tests (G.Ground.meaning ground.now) (plan_of actions.now.list.items) (target_of sheet.now.targets.items) sheet.now.lines) }
 {
-    if let Some(line) = first_left_behind(actions) {
+    let plan = actions.list.as_slice();
+    if let Some(line) = first_left_behind(plan) {
         return Err(Refusal::at(Rule::LeftBehind, line, 0));
     }
-    let (columns, end) = (ground.columns(), latest_end(actions));
+    let (columns, end) = (ground.columns(), latest_end(plan));
     if let Some(column) = first_missed(columns, actions, sheet.targets.as_slice(), end) {
         return Err(Refusal::at(Rule::TargetMissed, sheet.lines, column));
     }
@@ -85,6 +86,6 @@ pub fn judge<G: Ground>(
     let Room { reading, actions } = room;
     let read = read_sheet(ground, settings, sheet, reading)?;
     let actions = judge_lines(ground, settings, &read, actions)?;
-    judge_end(ground, actions.list.as_slice(), &read)?;
+    judge_end(ground, &actions, &read)?;
     Ok(accept(actions, read.targets))
 }

@@ -1,5 +1,5 @@
 // The rules of an action against the actions above it.
-ghost use Rattle.std.specs.Prelude.{◌≡◌, false, nat_lt};
+ghost use Rattle.std.specs.Prelude.{◌≡◌, false, ◌<◌, nat_lt};
 ghost use Rattle.terms.specs.Refusals.{Answers, first_of, or_else, refusal_in};
 ghost use Rattle.terms.specs.View.{settings_of};
 ghost use Rattle.ground.specs.Meaning.{Meaning};
@@ -83,11 +83,14 @@ impl Placed<'_> {
 
     // Whether the heights written for it are right.
     fn is_level(&self) -> bool
+        requires from { self.now.action.now.from.column < 256 }
+        requires to { self.now.action.now.to.column < 256 }
+        requires in_order { falls (plan_of self.now.above.now.list.items) (action_of self.now.action.now) ≡ false }
         ensures { result ≡ heights_fit (plan_of self.now.above.now.list.items) (action_of self.now.action.now) }
     {
-        let (above, start) = (self.above.list.as_slice(), self.action.span.start());
-        let from = height_at(above, start, self.action.from.column);
-        let to = height_at(above, start, self.action.to.column);
+        let start = self.action.span.start();
+        let from = height_at(self.above, start, self.action.from.column);
+        let to = height_at(self.above, start, self.action.to.column);
         is_fitting(self.action, from, to)
     }
 
@@ -126,6 +129,8 @@ impl Placed<'_> {
 
     // Refuses it by the first rule that it breaks, if it breaks one.
     fn check(&self, settings: &Settings) -> Result<(), Refusal>
+        requires from { self.now.action.now.from.column < 256 }
+        requires to { self.now.action.now.to.column < 256 }
         ensures { (m : Meaning) → Settled m (plan_of self.now.above.now.list.items) → refusal_in result ≡ first_of (judge_tests m (settings_of settings.now) (plan_of self.now.above.now.list.items) (action_of self.now.action.now)) }
     {
         let line = self.action.line;

@@ -5,5 +5,5 @@ use Rattle.judge.proofs.actions.Actions.recent.Goals as goal
 
 pub returns : goal.returns
 returns c =
-    let past = c.args.self.now.past in
+    let past = c.args.self.now.past.count in
     ap plan_of (take_rest c.as_slice.result.now past) ∙ sym (drop-map action_of past c.as_slice.result.now) ∙ ap (λ xs. drop past (plan_of xs)) c.as_slice.ensures.value

@@ -21,4 +21,4 @@ returns c =
     let found = find_from_yields_List (λ x. p (action_of x)) _ _ c.find.result c.find.ensures.ran (YieldsList-from_slice xs cc) (λ x b q k. search (rules, tests)) in
     let line : c.map.result ≡ option_map (λ (x : Held). x.line) (option_map (λ (y : Bor Held). y.now) c.find.result) = search rules in
     line ∙ line_found p xs _ found
-    ∙ ap line_in (ap (find p) c.recent.ensures ∙ find_recent p no_action above.past plan (none_collides plan above.past above.passed a c.requires))
+    ∙ ap line_in (ap (find p) c.recent.ensures ∙ find_recent p no_action above.past.count plan (none_collides plan above.past.count above.passed a c.requires))

@@ -9,6 +9,6 @@ pub returns : goal.returns
 returns c =
     let above = c.args.self.now.above.now in
     let a = action_of c.args.self.now.action.now in
-    let crowd = crowd_recent (plan_of above.list.items) above.past above.passed a c.requires c.args.self.now.action.now.span.ordered in
+    let crowd = crowd_recent (plan_of above.list.items) above.past.count above.passed a c.requires c.args.self.now.action.now.span.ordered in
     let same = ap (count_by (runs a.start)) c.recent.ensures in
     grind (arith, common_steps)

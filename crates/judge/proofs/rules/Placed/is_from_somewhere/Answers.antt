@@ -18,5 +18,5 @@ returns-else-eq c =
     let p = goes_on_from a in
     let any : c.any.result ≡ some_of p plan =
     any_from_yields_List (λ x. p (action_of x)) _ _ _ c.any.ensures.ran (YieldsList-from_slice xs cc) (λ x b q k. search (rules, tests)) ∙ some_is action_of p xs
-    ∙ ap (some_of p) c.recent.ensures ∙ some_recent p no_action above.past plan (none_goes_on plan above.past above.passed a c.requires) in
+    ∙ ap (some_of p) c.recent.ensures ∙ some_recent p no_action above.past.count plan (none_goes_on plan above.past.count above.passed a c.requires) in
     grind (arith, common_steps)

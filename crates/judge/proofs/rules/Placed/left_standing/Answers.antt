@@ -16,7 +16,7 @@ returns c =
     let start = (action_of c.args.self.now.action.now).start in
     let xs = c.recent-recent.result.now in
     let p = left_between (plan_of xs) (latest_start plan) start in
-    lowest_left plan above.past above.passed start c.min.result
+    lowest_left plan above.past.count above.passed start c.min.result
     (subst (λ (ys : List Action). Lowest (left_between ys (latest_start plan) start) ys c.min.result) c.recent-recent.ensures
     (lowest_found p xs c.min.result
     (min_from_yields_List c.map.result c.min.result c.min.ensures.ran (YieldsList-from_map _ (λ x. end_column (action_of x))
