@@ -1,6 +1,5 @@
 pub mod Searches
 pub mod Lowest
-pub mod Recent
 pub mod Past
 pub mod Heights
 pub mod Settling
@@ -9,6 +8,7 @@ pub mod Left
 pub mod Tested
 pub mod Most
 pub mod Reasoned
+pub mod Recent
 pub mod Silence
 pub mod Exact
 pub mod Ended

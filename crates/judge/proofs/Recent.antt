@@ -1,13 +1,15 @@
 -- Searches need not look at first elements of which none passes the test, and none of those that ended before the last start does.
 -- Assumes nothing.
-use Rattle.std.proofs.Common.{◌≡◌, ℕ, zero, suc, ◌+◌, ◌-◌, ◌<◌, ◌≤◌, max, min, Bool, true, false, cond, not, ◌&&◌, ◌||◌, ltb, leb, ◌⊎◌, List, [], ◌∷◌, length, get_or, drop, count_by, Some, None, Option, sym, refl, ap, ◌∙◌, subst, inl, inr, arith, length-drop, get_or-drop}
+use Rattle.std.proofs.Common.{◌≡◌, ℕ, zero, suc, ◌+◌, ◌-◌, ◌<◌, ◌≤◌, max, min, Bool, true, false, cond, not, ◌&&◌, ◌||◌, ltb, leb, ◌⊎◌, List, [], ◌∷◌, length, get_or, drop, count_by, Some, None, Option, sym, refl, ap, ap₂, ◌∙◌, subst, inl, inr, arith, length-drop, get_or-drop}
 use Rattle.std.proofs.lemmas.List.Sums.{sum_by-append}
-use Rattle.std.proofs.lemmas.Bool.{both_ways, cases_Bool, cases_lt, le-ltb, leb-true, lt-leb, ltb-false, ne_eqb}
+use Rattle.std.proofs.lemmas.Bool.{both_ways, cases_Bool, cases_lt, le-ltb, leb-false, leb-true, lt-leb, ltb-false, ne_eqb}
+use Rattle.ground.specs.Meaning.{Meaning}
 use Rattle.plan.specs.Plan.{Action, carried, end_column, is_entry, is_leave, line, no_action, runs, shares, some_of, starts}
 use Rattle.plan.proofs.Counts.{count_by_cons, unit}
 use Rattle.plan.proofs.Searches.{decides_runs}
-use Rattle.judge.specs.Finding.{Lowest, Passed, find, left_between}
-use Rattle.judge.specs.Judging.{collide, crowd, falls, goes_on_from, latest_start}
+use Rattle.judge.specs.Finding.{Lowest, Passed, Settled, find, left_between}
+use Rattle.judge.specs.Judging.{collide, crowd, falls, goes_on_from, latest_start, left_behind}
+use Rattle.judge.proofs.Reasoned.{decides_behind}
 
 -- none of the first n elements passes a test
 abbrev pub Unheard : {X : Type 0} → (X → Bool) → X → ℕ → List X → Type 0
@@ -19,6 +21,10 @@ module _ {X : Type 0} (p : X → Bool) (d : X) where
   find_recent (suc n) [] h = refl
   find_recent (suc n) (x ∷ xs) h =
       find_recent n xs (λ i l. h (suc i) (omega arith)) ∙ sym (ap (λ (b : Bool). cond b (Some x) (find p xs)) (h 0 (omega arith)))
+
+  pub find_same : (q : X → Bool) (d : X) (xs : List X) → ((i : ℕ) → i < length xs → p (get_or xs i d) ≡ q (get_or xs i d)) → find p xs ≡ find q xs
+  find_same q e [] h = refl
+  find_same q e (x ∷ xs) h = ap₂ (λ (b : Bool) (o : Option X). cond b (Some x) o) (h 0 (omega arith)) (find_same q e xs (λ i l. h (suc i) (omega arith)))
 
   pub some_recent : (n : ℕ) (xs : List X) → Unheard p d n xs → some_of p (drop n xs) ≡ some_of p xs
   some_recent zero xs h = refl
@@ -98,6 +104,34 @@ module _ (plan : List Action) (n : ℕ) (past : Passed plan (latest_start plan) 
       some_recent (starts t c) no_action n plan
       (λ i l. let e = past.ended i l in let s = past.ordered i l in
       fails_later (not (is_entry (line plan i).work)) _ (fails_first _ _ (ne_eqb (line plan i).start t (λ (x : (line plan i).start ≡ t). omega arith))))
+
+  -- those that ended before the last start are not left behind
+  settled_on : (m : Meaning) → Settled m plan → (i : ℕ) → i < length plan → (line plan i).end < latest_start plan → left_behind plan (line plan i) ≡ false
+  settled_on m so i l e = go (cases_Bool (left_behind plan (line plan i)))
+    where
+      go : (left_behind plan (line plan i) ≡ true) ⊎ (left_behind plan (line plan i) ≡ false) → left_behind plan (line plan i) ≡ false
+      go (inl y) = let w = (decides_behind plan (line plan i)).0 y in absurd (w.1 (so.carried_on i l w.0 e))
+      go (inr f) = f
+
+  pub behind_recent : (m : Meaning) → Settled m plan → find (λ b. leb (latest_start plan) b.end && left_behind (drop n plan) b) (drop n plan) ≡ find (left_behind plan) plan
+  behind_recent m so =
+      find_same _ no_action (left_behind plan) no_action (drop n plan) (λ j l. same j l (cases_Bool (leb (latest_start plan) (line (drop n plan) j).end)))
+      ∙ find_recent (left_behind plan) no_action n plan (λ i l. settled_on m so i (omega (arith, past.within)) (past.ended i l))
+    where
+      test : Bool → Bool → Action → Bool
+      test x w b = x && (not (is_leave b.work) && not w)
+
+      same : (j : ℕ) → j < length (drop n plan) → (leb (latest_start plan) (line (drop n plan) j).end ≡ true) ⊎ (leb (latest_start plan) (line (drop n plan) j).end ≡ false)
+          → (leb (latest_start plan) (line (drop n plan) j).end && left_behind (drop n plan) (line (drop n plan) j)) ≡ left_behind plan (line (drop n plan) j)
+      same j l (inl y) =
+          let b = line (drop n plan) j in
+          ap (λ (x : Bool). test x (carried (drop n plan) b.end (end_column b)) b) y
+          ∙ ap (λ (w : Bool). test true w b) (carried_recent b.end (end_column b) (leb-true _ _ y))
+      same j l (inr f) =
+          let b = line (drop n plan) j in
+          let at : b ≡ line plan (n + j) = get_or-drop n plan j no_action in
+          ap (λ (x : Bool). test x (carried (drop n plan) b.end (end_column b)) b) f
+          ∙ sym (ap (left_behind plan) at ∙ settled_on m so (n + j) (omega (arith, length-drop n plan)) (subst (λ (x : Action). x.end < latest_start plan) at (leb-false _ _ f)))
 
   left_recent : (t : ℕ) (b : Action) → left_between (drop n plan) (latest_start plan) t b ≡ left_between plan (latest_start plan) t b
   left_recent t b = go (cases_Bool (leb (latest_start plan) b.end))

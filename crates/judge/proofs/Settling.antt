@@ -23,7 +23,7 @@ within PickUp f o n p q = p
 within Deliver f o n p q = p
 
 -- what holds of each action and of one more holds of all
-each_pushed : (P : Action → Type 0) (xs : List Action) (x : Action) → ((i : ℕ) → i < length xs → P (line xs i)) → P x
+pub each_pushed : (P : Action → Type 0) (xs : List Action) (x : Action) → ((i : ℕ) → i < length xs → P (line xs i)) → P x
     → (i : ℕ) → i < length (xs ++ (x ∷ [])) → P (line (xs ++ (x ∷ [])) i)
 each_pushed P xs x each here i l = go (cases_lt i (length xs))
   where

@@ -1,9 +1,9 @@
 -- What searches over actions find: the first of some kind, and the lowest column. Assumes nothing.
-use Rattle.std.specs.Prelude.{◌≡◌, ℕ, ◌+◌, ◌<◌, ◌≤◌, min, Bool, true, cond, not, ◌&&◌, ◌≢◌, List, [], ◌∷◌, length, take, count_by, slice_index_or, slice_set, Some, None, Option, nat_le, nat_lt}
+use Rattle.std.specs.Prelude.{◌≡◌, ℕ, ◌+◌, ◌<◌, ◌≤◌, max, min, Bool, true, cond, not, ◌&&◌, ◌≢◌, List, [], ◌∷◌, length, take, count_by, slice_index_or, slice_set, Some, None, Option, nat_le, nat_lt}
 use Rattle.std.specs.Option.{option_map}
 use Rattle.terms.specs.declared.work.Work.TheVariants.{Leave}
 use Rattle.ground.specs.Meaning.{Meaning}
-use Rattle.plan.specs.Plan.{Action, carried, end_column, is_leave, line}
+use Rattle.plan.specs.Plan.{Action, carried, end_column, is_leave, line, runs}
 use Rattle.plan.specs.Rules.{Carried}
 use Rattle.judge.specs.Judging.{latest_start}
 
@@ -52,3 +52,16 @@ pub record Tally (p : ℕ → ℕ → Action → Bool) (plan : List Action) (t n
 -- one more at the column c
 abbrev pub raised : List ℕ → ℕ → List ℕ
 raised counts c = slice_set counts c (slice_index_or counts c 0 + 1)
+
+-- the largest of a number of each action, 0 for none
+abbrev pub largest : (Action → ℕ) → List Action → ℕ
+largest g [] = 0
+largest g (a ∷ rest) = max (g a) (largest g rest)
+
+-- how many actions of the plan run at the start of an action
+abbrev pub beside : List Action → Action → ℕ
+beside plan a = count_by (runs a.start) plan
+
+-- the most at any start
+abbrev pub most_at_once : List Action → ℕ
+most_at_once plan = largest (beside plan) plan

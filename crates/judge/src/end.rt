@@ -3,23 +3,26 @@ ghost use Rattle.std.specs.Prelude.{◌≡◌, ℕ, ◌<◌, ◌≤◌, [], ◌�
 ghost use Rattle.std.specs.Option.{option_map};
 ghost use Rattle.terms.specs.Refusals.{first_of, from_on, told};
 ghost use Rattle.terms.specs.declared.refusal.Rule.TheVariants.{TargetMissed};
+ghost use Rattle.ground.specs.Meaning.{Meaning};
 ghost use Rattle.plan.specs.Rules.{target_of};
 ghost use Rattle.plan.specs.View.{plan_of};
-ghost use Rattle.judge.specs.Finding.{find, line_in};
+ghost use Rattle.judge.specs.Finding.{Settled, find, line_in};
 ghost use Rattle.judge.specs.Judging.{latest_start, left_behind, missed};
 
-use crate::above::{height_at, is_left_behind};
+use crate::above::{height_at, is_left_behind, latest_start};
 use crate::actions::Actions;
-use plan::Action;
 use sheet::Target;
 
 // The line of the first action whose robot is left behind.
-pub(crate) fn first_left_behind(actions: &[Action]) -> Option<u16>
-    ensures { result ≡ line_in (find (left_behind (plan_of actions.now)) (plan_of actions.now)) }
+// Where no line is refused, the actions that ended before the last start are carried on already.
+pub(crate) fn first_left_behind(actions: &Actions) -> Option<u16>
+    ensures { (m : Meaning) → Settled m (plan_of actions.now.list.items) → result ≡ line_in (find (left_behind (plan_of actions.now.list.items)) (plan_of actions.now.list.items)) }
 {
-    actions
+    let recent = actions.recent();
+    let since = latest_start(actions.list.as_slice());
+    recent
         .iter()
-        .find(|action| is_left_behind(actions, action))
+        .find(|action| action.span.end() >= since && is_left_behind(recent, action))
         .map(|action| action.line)
 }
 

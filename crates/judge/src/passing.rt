@@ -5,6 +5,7 @@ ghost use Rattle.plan.specs.View.{action_of, plan_of};
 ghost use Rattle.judge.specs.Finding.{Passed, Tally, raised};
 ghost use Rattle.judge.specs.Judging.{falls};
 
+use crate::above::running_at;
 use crate::actions::{Actions, Past};
 use crate::room::MOST_ACTIONS;
 use plan::Action;
@@ -76,6 +77,7 @@ impl Actions {
         Actions {
             list: room.into_vec(),
             past: Past::none(),
+            most: 0,
         }
     }
 
@@ -86,6 +88,7 @@ impl Actions {
         ensures { plan_of self.new.list.items ≡ plan_of self.old.list.items ++ (action_of action ∷ []) }
     {
         let start = action.span.start();
+        self.most = self.most.max(running_at(self.recent(), start) + 1);
         self.list.push_reserved(action);
         pass(self.list.as_slice(), &mut self.past, start);
     }

@@ -88,5 +88,5 @@ returns g c =
     let i = c.loop-line.line-index in
     let inv = c.loop-line.invariant in (
       whole m s same ∙ sym inv.2 ∙ none_left (tests_at m s acts) i (length acts) (omega arith),
-      inv.0 ∙ plan_all acts i c.loop-line-test.false ∙ ap written_plan same,
+      (inv.0 ∙ plan_all acts i c.loop-line-test.false ∙ ap written_plan same, inv.1),
     )
