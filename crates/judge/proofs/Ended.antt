@@ -1,15 +1,19 @@
 -- The rules of the sheet's end, one after another. Assumes nothing.
-use Rattle.std.proofs.Common.{◌≡◌, ℕ, Bool, List, [], ◌∷◌, length, Some, None, Option, sym, refl, ap, ◌∙◌}
+use Rattle.std.proofs.Common.{◌≡◌, ℕ, ◌-◌, ◌<◌, ◌≤◌, get_or, Bool, List, [], ◌∷◌, length, Some, None, Option, sym, refl, ap, ◌∙◌, arith}
+use Rattle.std.proofs.lemmas.List.{get_or-map, length-map}
 use Rattle.std.specs.Option.{option_map}
 use Rattle.terms.specs.Refusals.{Told, told, first_of, from_on, or_else}
 use Rattle.terms.specs.declared.refusal.Rule.TheVariants.{LeftBehind, TargetMissed}
 use Rattle.terms.proofs.First.{first_append}
 use Rattle.ground.specs.Meaning.{Meaning}
 use Rattle.sheet.specs.declared.target.Target.{Target}
+use Rattle.plan.specs.declared.action.Action.{Action as Held}
+use Rattle.plan.specs.View.{action_of, plan_of}
+use Rattle.plan.proofs.Judged.{ends_by}
 use Rattle.plan.specs.Plan.{Action, line, makespan, no_action}
 use Rattle.plan.specs.Rules.{target_of}
 use Rattle.judge.specs.Finding.{find, line_in}
-use Rattle.judge.specs.Judging.{end_tests, left_behind, missed}
+use Rattle.judge.specs.Judging.{end_tests, latest_start, left_behind, missed}
 use Rattle.judge.proofs.Chains.{first_found}
 
 module _ (m : Meaning) (plan : List Action) (targets : ℕ → ℕ) (lines : ℕ) where
@@ -51,3 +55,16 @@ pub both_in_turn : (m : Meaning) (plan : List Action) (lines : ℕ) {columns tim
 both_in_turn m plan lines {columns} {time} {ts} {targets} {behind} column is width end same found =
     in_turn m plan (target_of targets) lines behind is
     ∙ ap (λ (o : Option Told). or_else (option_map (λ l. told LeftBehind l 0) behind) o) (missed_in_turn m plan lines width end same ∙ found)
+
+-- the last start is no later than the end of all
+pub starts_by_end : (xs : List Held) → latest_start (plan_of xs) ≤ makespan (plan_of xs)
+starts_by_end [] = omega arith
+starts_by_end (x ∷ xs) =
+    let plan = plan_of (x ∷ xs) in
+    let i = length plan - 1 in
+    let l : i < length plan = omega arith in
+    let k : i < length (x ∷ xs) = omega (arith, length-map (x ∷ xs) action_of) in
+    let o = (get_or (x ∷ xs) i x).span.ordered in
+    let starts : (line plan i).start ≡ (action_of (get_or (x ∷ xs) i x)).start = ap (λ (a : Action). a.start) (get_or-map action_of (x ∷ xs) i x no_action k) in
+    let ends : (line plan i).end ≡ (action_of (get_or (x ∷ xs) i x)).end = ap (λ (a : Action). a.end) (get_or-map action_of (x ∷ xs) i x no_action k) in
+    omega (arith, o, starts, ends, ends_by plan i l)

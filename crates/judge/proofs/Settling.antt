@@ -1,5 +1,5 @@
 -- With one more action that breaks no rule, actions that broke none stay so. Assumes nothing.
-use Rattle.std.proofs.Common.{◌≡◌, ℕ, ◌-◌, ◌<◌, ◌≤◌, ◌≢◌, ◌⊎◌, List, [], ◌∷◌, ◌++◌, length, sym, refl, ap, subst, inl, inr, arith}
+use Rattle.std.proofs.Common.{◌≡◌, ℕ, ◌<◌, ◌≤◌, ◌≢◌, ◌⊎◌, List, [], ◌∷◌, ◌++◌, length, sym, refl, subst, inl, inr, arith}
 use Rattle.std.proofs.lemmas.Bool.{cases_lt}
 use Rattle.std.proofs.lemmas.List.{get_or_append_left, get_or_push, length_push}
 use Rattle.terms.specs.Durations.{SiteSettings}
@@ -12,6 +12,7 @@ use Rattle.plan.specs.Rules.{Carried}
 use Rattle.plan.proofs.Searches.{decides_carried, stable}
 use Rattle.judge.specs.Finding.{Settled}
 use Rattle.judge.specs.Judging.{latest_start}
+use Rattle.judge.proofs.Past.{latest_push}
 
 within : (w : Work) (f o n : ℕ) → f < n → o < n → end_column_of w f o < n
 within Entry f o n p q = p
@@ -22,7 +23,7 @@ within PickUp f o n p q = p
 within Deliver f o n p q = p
 
 -- what holds of each action and of one more holds of all
-each_pushed : (P : Action → Type 0) (xs : List Action) (x : Action) → ((i : ℕ) → i < length xs → P (line xs i)) → P x
+pub each_pushed : (P : Action → Type 0) (xs : List Action) (x : Action) → ((i : ℕ) → i < length xs → P (line xs i)) → P x
     → (i : ℕ) → i < length (xs ++ (x ∷ [])) → P (line (xs ++ (x ∷ [])) i)
 each_pushed P xs x each here i l = go (cases_lt i (length xs))
   where
@@ -47,7 +48,7 @@ settled_more m s above a timed so w =
     }
   where
     last : latest_start (above ++ (a ∷ [])) ≡ a.start
-    last = ap (λ (x : Action). x.start) (get_or_push above a no_action (length (above ++ (a ∷ [])) - 1) (omega (arith, length_push above a)))
+    last = latest_push above a
 
     on : (k : ℕ) → k < length above → (line above k).work ≢ Leave → (line above k).end < a.start → Carried above (line above k).end (end_column (line above k))
     on k l n b =

@@ -1,9 +1,9 @@
 -- What searches over actions find: the first of some kind, and the lowest column. Assumes nothing.
-use Rattle.std.specs.Prelude.{◌≡◌, ℕ, ◌<◌, ◌≤◌, min, Bool, true, cond, not, ◌&&◌, ◌≢◌, List, [], ◌∷◌, length, Some, None, Option, nat_le, nat_lt}
+use Rattle.std.specs.Prelude.{◌≡◌, ℕ, ◌+◌, ◌<◌, ◌≤◌, max, min, Bool, true, cond, not, ◌&&◌, ◌≢◌, List, [], ◌∷◌, length, take, count_by, slice_index_or, slice_set, Some, None, Option, nat_le, nat_lt}
 use Rattle.std.specs.Option.{option_map}
 use Rattle.terms.specs.declared.work.Work.TheVariants.{Leave}
 use Rattle.ground.specs.Meaning.{Meaning}
-use Rattle.plan.specs.Plan.{Action, carried, end_column, is_leave, line}
+use Rattle.plan.specs.Plan.{Action, carried, end_column, is_leave, line, runs}
 use Rattle.plan.specs.Rules.{Carried}
 use Rattle.judge.specs.Judging.{latest_start}
 
@@ -37,3 +37,31 @@ pub record Settled (m : Meaning) (above : List Action) : Type 0 where
   pub grounded : (i : ℕ) → i < length above → end_column (line above i) < m.columns
   pub carried_on : (i : ℕ) → i < length above → (line above i).work ≢ Leave → (line above i).end < latest_start above
       → Carried above (line above i).end (end_column (line above i))
+
+-- the first n actions ended before the time t
+pub record Passed (plan : List Action) (t n : ℕ) : Type 0 where
+  pub within : n ≤ length plan
+  pub ordered : (i : ℕ) → i < n → (line plan i).start < (line plan i).end
+  pub ended : (i : ℕ) → i < n → (line plan i).end < t
+
+-- the first n actions, which end before the time t, count for each column as a list of numbers says, from t on
+pub record Tally (p : ℕ → ℕ → Action → Bool) (plan : List Action) (t n : ℕ) (counts : List ℕ) : Type 0 where
+  pub wide : length counts ≡ 256
+  pub counted : (c u : ℕ) → c < 256 → t ≤ u → count_by (p u c) (take n plan) ≡ slice_index_or counts c 0
+
+-- one more at the column c
+abbrev pub raised : List ℕ → ℕ → List ℕ
+raised counts c = slice_set counts c (slice_index_or counts c 0 + 1)
+
+-- the largest of a number of each action, 0 for none
+abbrev pub largest : (Action → ℕ) → List Action → ℕ
+largest g [] = 0
+largest g (a ∷ rest) = max (g a) (largest g rest)
+
+-- how many actions of the plan run at the start of an action
+abbrev pub beside : List Action → Action → ℕ
+beside plan a = count_by (runs a.start) plan
+
+-- the most at any start
+abbrev pub most_at_once : List Action → ℕ
+most_at_once plan = largest (beside plan) plan

@@ -1,9 +1,10 @@
 // What the actions above a line come to.
-ghost use Rattle.std.specs.Prelude.{◌≡◌, count_by};
-ghost use Rattle.plan.specs.Plan.{carried, height_at, runs};
+ghost use Rattle.std.specs.Prelude.{◌≡◌, ◌<◌, ◌≤◌, count_by};
+ghost use Rattle.plan.specs.Plan.{carried, delivers, height_at, picks, runs};
 ghost use Rattle.plan.specs.View.{action_of, plan_of};
 ghost use Rattle.judge.specs.Judging.{latest_start, left_behind};
 
+use crate::actions::Actions;
 use plan::Action;
 use terms::Work;
 
@@ -38,17 +39,35 @@ pub(crate) fn running_at(actions: &[Action], time: u32) -> usize
         .count()
 }
 
-// The height of a column at a time: blocks delivered less blocks picked up by then.
-pub(crate) fn height_at(actions: &[Action], time: u32, column: u16) -> usize
-    ensures { result ≡ height_at (plan_of actions.now) time column }
+// How many blocks were delivered to a column by a time.
+fn delivered_by(actions: &[Action], time: u32, column: u16) -> usize
+    ensures { result ≡ count_by (delivers time column) (plan_of actions.now) }
 {
-    let delivered = actions
+    actions
         .iter()
         .filter(|action| action.delivers(time, column))
-        .count();
-    let picked = actions
+        .count()
+}
+
+// How many blocks were picked up from a column by a time.
+fn picked_by(actions: &[Action], time: u32, column: u16) -> usize
+    ensures { result ≡ count_by (picks time column) (plan_of actions.now) }
+{
+    actions
         .iter()
         .filter(|action| action.picks(time, column))
-        .count();
-    delivered.saturating_sub(picked)
+        .count()
+}
+
+// The height of a column at a time no earlier than the last start: blocks delivered less blocks picked up by then.
+pub(crate) fn height_at(actions: &Actions, time: u32, column: u16) -> usize
+    requires column { column < 256 }
+    requires time { latest_start (plan_of actions.now.list.items) ≤ time }
+    ensures { result ≡ height_at (plan_of actions.now.list.items) time column }
+{
+    let (recent, at) = (actions.recent(), usize::from(column));
+    let delivered = delivered_by(recent, time, column);
+    let picked = picked_by(recent, time, column);
+    let delivered = usize::from(actions.past.delivered[at]) + delivered;
+    delivered.saturating_sub(usize::from(actions.past.picked[at]) + picked)
 }

@@ -1,24 +1,28 @@
 // The rules of a plan at the sheet's end.
-ghost use Rattle.std.specs.Prelude.{◌≡◌, ℕ, [], ◌∷◌};
+ghost use Rattle.std.specs.Prelude.{◌≡◌, ℕ, ◌<◌, ◌≤◌, [], ◌∷◌};
 ghost use Rattle.std.specs.Option.{option_map};
 ghost use Rattle.terms.specs.Refusals.{first_of, from_on, told};
 ghost use Rattle.terms.specs.declared.refusal.Rule.TheVariants.{TargetMissed};
+ghost use Rattle.ground.specs.Meaning.{Meaning};
 ghost use Rattle.plan.specs.Rules.{target_of};
 ghost use Rattle.plan.specs.View.{plan_of};
-ghost use Rattle.judge.specs.Finding.{find, line_in};
-ghost use Rattle.judge.specs.Judging.{left_behind, missed};
+ghost use Rattle.judge.specs.Finding.{Settled, find, line_in};
+ghost use Rattle.judge.specs.Judging.{latest_start, left_behind, missed};
 
-use crate::above::{height_at, is_left_behind};
-use plan::Action;
+use crate::above::{height_at, is_left_behind, latest_start};
+use crate::actions::Actions;
 use sheet::Target;
 
 // The line of the first action whose robot is left behind.
-pub(crate) fn first_left_behind(actions: &[Action]) -> Option<u16>
-    ensures { result ≡ line_in (find (left_behind (plan_of actions.now)) (plan_of actions.now)) }
+// Where no line is refused, the actions that ended before the last start are carried on already.
+pub(crate) fn first_left_behind(actions: &Actions) -> Option<u16>
+    ensures { (m : Meaning) → Settled m (plan_of actions.now.list.items) → result ≡ line_in (find (left_behind (plan_of actions.now.list.items)) (plan_of actions.now.list.items)) }
 {
-    actions
+    let recent = actions.recent();
+    let since = latest_start(actions.list.as_slice());
+    recent
         .iter()
-        .find(|action| is_left_behind(actions, action))
+        .find(|action| action.span.end() >= since && is_left_behind(recent, action))
         .map(|action| action.line)
 }
 
@@ -34,8 +38,10 @@ fn target_of(targets: &[Target], column: u16) -> u8
 }
 
 // Whether the height of a column at a time is not its target.
-fn is_missed(actions: &[Action], targets: &[Target], time: u32, column: u16) -> bool
-    ensures { result ≡ missed (plan_of actions.now) (target_of targets.now) time column }
+fn is_missed(actions: &Actions, targets: &[Target], time: u32, column: u16) -> bool
+    requires column { column < 256 }
+    requires time { latest_start (plan_of actions.now.list.items) ≤ time }
+    ensures { result ≡ missed (plan_of actions.now.list.items) (target_of targets.now) time column }
 {
     height_at(actions, time, column) != usize::from(target_of(targets, column))
 }
@@ -43,11 +49,13 @@ fn is_missed(actions: &[Action], targets: &[Target], time: u32, column: u16) -> 
 // The lowest column whose height at a time is not its target.
 pub(crate) fn first_missed(
     columns: u16,
-    actions: &[Action],
+    actions: &Actions,
     targets: &[Target],
     time: u32,
 ) -> Option<u16>
-    ensures { (lines : ℕ) → first_of (from_on (λ c. (missed (plan_of actions.now) (target_of targets.now) time c, told TargetMissed lines c) ∷ []) 0 columns) ≡ option_map (told TargetMissed lines) result }
+    requires columns { columns ≤ 256 }
+    requires time { latest_start (plan_of actions.now.list.items) ≤ time }
+    ensures { (lines : ℕ) → first_of (from_on (λ c. (missed (plan_of actions.now.list.items) (target_of targets.now) time c, told TargetMissed lines c) ∷ []) 0 columns) ≡ option_map (told TargetMissed lines) result }
 {
     (0..columns).find(|column| is_missed(actions, targets, time, *column))
 }

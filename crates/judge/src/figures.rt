@@ -1,10 +1,9 @@
 // What a plan comes to.
-ghost use Rattle.std.specs.Prelude.{◌≡◌, ℕ, ◌≤◌, sum_by, count_by};
-ghost use Rattle.plan.specs.Plan.{makespan, runs};
+ghost use Rattle.std.specs.Prelude.{◌≡◌, sum_by};
+ghost use Rattle.plan.specs.Plan.{makespan};
 ghost use Rattle.plan.specs.View.{plan_of};
 ghost use Rattle.judge.specs.Figures.{cost};
 
-use crate::above::running_at;
 use crate::actions::Actions;
 use plan::Action;
 
@@ -28,16 +27,4 @@ pub(crate) fn costs(actions: &Actions) -> u64
         .iter()
         .map(|action| u64::from(action.span.cost()))
         .sum()
-}
-
-// The most actions that run at one time.
-pub(crate) fn most_at_once(actions: &[Action]) -> usize
-    ensures reached { (t : ℕ) × (count_by (runs t) (plan_of actions.now) ≡ result) }
-    ensures never_more { (t : ℕ) → count_by (runs t) (plan_of actions.now) ≤ result }
-{
-    actions
-        .iter()
-        .map(|action| running_at(actions, action.span.start()))
-        .max()
-        .unwrap_or(0)
 }

@@ -6,13 +6,14 @@ ghost use Rattle.plan.specs.Rules.{written_plan, target_of};
 ghost use Rattle.plan.specs.View.{plan_of};
 ghost use Rattle.sheet.specs.View.{records_in};
 ghost use Rattle.judge.specs.Figures.{Figures};
+ghost use Rattle.judge.specs.Finding.{Settled};
 ghost use Rattle.judge.specs.Judging.{end_tests, judging_refusal, tests_at};
 ghost use Rattle.judge.specs.Reasons.{judging_reasons};
 ghost use Rattle.judge.specs.Verdict.{Accepts, Keeps};
 
 use crate::actions::Actions;
 use crate::end::{first_left_behind, first_missed};
-use crate::figures::{costs, latest_end, most_at_once};
+use crate::figures::{costs, latest_end};
 use crate::room::MOST_ACTIONS;
 use crate::rules::judge_line;
 use crate::{Accepted, Room};
@@ -29,24 +30,24 @@ fn judge_lines<G: Ground>(
     sheet: &Sheet,
     room: Reserve<Action, MOST_ACTIONS>,
 ) -> Result<Actions, Refusal>
-    ensures { Answers (first_of (from_on (tests_at (G.Ground.meaning ground.now) (settings_of settings.now) sheet.now.acts.items) 0 (length sheet.now.acts.items))) (λ a. plan_of a.list.items ≡ written_plan sheet.now.acts.items) result }
+    ensures { Answers (first_of (from_on (tests_at (G.Ground.meaning ground.now) (settings_of settings.now) sheet.now.acts.items) 0 (length sheet.now.acts.items))) (λ a. (plan_of a.list.items ≡ written_plan sheet.now.acts.items) × Settled (G.Ground.meaning ground.now) (plan_of a.list.items)) result }
 {
-    let mut list = room.into_vec();
+    let mut above = Actions::none(room);
     for line in &sheet.acts {
-        let action = judge_line(ground, settings, list.as_slice(), line)?;
-        list.push_reserved(action);
+        let action = judge_line(ground, settings, &above, line)?;
+        above.push(action);
     }
-    Ok(Actions { list })
+    Ok(above)
 }
 
 // Refuses a plan by the first rule that it breaks at the end of its sheet, if it breaks one.
-fn judge_end<G: Ground>(ground: &G, actions: &[Action], sheet: &Sheet) -> Result<(), Refusal>
-    ensures { refusal_in result ≡ first_of (end_tests (G.Ground.meaning ground.now) (plan_of actions.now) (target_of sheet.now.targets.items) sheet.now.lines) }
+fn judge_end<G: Ground>(ground: &G, actions: &Actions, sheet: &Sheet) -> Result<(), Refusal>
+    ensures { Settled (G.Ground.meaning ground.now) (plan_of actions.now.list.items) → refusal_in result ≡ first_of (end_tests (G.Ground.meaning ground.now) (plan_of actions.now.list.items) (target_of sheet.now.targets.items) sheet.now.lines) }
 {
     if let Some(line) = first_left_behind(actions) {
         return Err(Refusal::at(Rule::LeftBehind, line, 0));
     }
-    let (columns, end) = (ground.columns(), latest_end(actions));
+    let (columns, end) = (ground.columns(), latest_end(actions.list.as_slice()));
     if let Some(column) = first_missed(columns, actions, sheet.targets.as_slice(), end) {
         return Err(Refusal::at(Rule::TargetMissed, sheet.lines, column));
     }
@@ -61,7 +62,7 @@ fn accept(actions: Actions, targets: Vec<Target>) -> Accepted
     let plan = actions.list.as_slice();
     let makespan = latest_end(plan);
     let costs = costs(&actions);
-    let most = most_at_once(plan);
+    let most = actions.most;
     Accepted {
         actions: actions.list,
         targets,
@@ -85,6 +86,6 @@ pub fn judge<G: Ground>(
     let Room { reading, actions } = room;
     let read = read_sheet(ground, settings, sheet, reading)?;
     let actions = judge_lines(ground, settings, &read, actions)?;
-    judge_end(ground, actions.list.as_slice(), &read)?;
+    judge_end(ground, &actions, &read)?;
     Ok(accept(actions, read.targets))
 }

@@ -8,6 +8,7 @@ mod actions;
 mod end;
 mod figures;
 mod judging;
+mod passing;
 mod room;
 mod rules;
 #[cfg(test)]

@@ -1,5 +1,5 @@
 // The rules of an action against the actions above it.
-ghost use Rattle.std.specs.Prelude.{◌≡◌, nat_lt};
+ghost use Rattle.std.specs.Prelude.{◌≡◌, false, ◌<◌, nat_lt};
 ghost use Rattle.terms.specs.Refusals.{Answers, first_of, or_else, refusal_in};
 ghost use Rattle.terms.specs.View.{settings_of};
 ghost use Rattle.ground.specs.Meaning.{Meaning};
@@ -9,6 +9,7 @@ ghost use Rattle.judge.specs.Judging.{latest_start, falls, fits, heights_fit, co
 ghost use Rattle.judge.specs.Finding.{find, Lowest, left_between, line_in, Settled};
 
 use crate::above::{height_at, is_left_behind, latest_start, running_at};
+use crate::actions::Actions;
 use ground::Ground;
 use plan::{Action, action_of};
 use sheet::ActLine;
@@ -54,34 +55,38 @@ fn is_going_on(action: &Action, other: &Action) -> bool
 // An action, and the actions above it.
 #[derive(Clone, Copy)]
 struct Placed<'a> {
-    above: &'a [Action],
+    above: &'a Actions,
     action: &'a Action,
 }
 
 impl Placed<'_> {
     // Whether it starts below the action before it.
     fn is_falling(&self) -> bool
-        ensures { result ≡ falls (plan_of self.now.above.now) (action_of self.now.action.now) }
+        ensures { result ≡ falls (plan_of self.now.above.now.list.items) (action_of self.now.action.now) }
     {
-        self.action.span.start() < latest_start(self.above)
+        self.action.span.start() < latest_start(self.above.list.as_slice())
     }
 
     // The lowest column at which a robot was left standing since the action before it started.
     fn left_standing(&self) -> Option<u16>
-        ensures { Lowest (left_between (plan_of self.now.above.now) (latest_start (plan_of self.now.above.now)) (action_of self.now.action.now).start) (plan_of self.now.above.now) result }
+        ensures { Lowest (left_between (plan_of self.now.above.now.list.items) (latest_start (plan_of self.now.above.now.list.items)) (action_of self.now.action.now).start) (plan_of self.now.above.now.list.items) result }
     {
-        let since = latest_start(self.above);
+        let since = latest_start(self.above.list.as_slice());
         let until = self.action.span.start();
-        self.above
+        let recent = self.above.recent();
+        recent
             .iter()
-            .filter(|other| is_left(self.above, other, since, until))
+            .filter(|other| is_left(recent, other, since, until))
             .map(|other| other.end_column())
             .min()
     }
 
     // Whether the heights written for it are right.
     fn is_level(&self) -> bool
-        ensures { result ≡ heights_fit (plan_of self.now.above.now) (action_of self.now.action.now) }
+        requires from { self.now.action.now.from.column < 256 }
+        requires to { self.now.action.now.to.column < 256 }
+        requires in_order { falls (plan_of self.now.above.now.list.items) (action_of self.now.action.now) ≡ false }
+        ensures { result ≡ heights_fit (plan_of self.now.above.now.list.items) (action_of self.now.action.now) }
     {
         let start = self.action.span.start();
         let from = height_at(self.above, start, self.action.from.column);
@@ -91,9 +96,11 @@ impl Placed<'_> {
 
     // The line of the first action above that collides with it.
     fn first_collision(&self) -> Option<u16>
-        ensures { result ≡ line_in (find (λ b. collide b (action_of self.now.action.now)) (plan_of self.now.above.now)) }
+        requires { falls (plan_of self.now.above.now.list.items) (action_of self.now.action.now) ≡ false }
+        ensures { result ≡ line_in (find (λ b. collide b (action_of self.now.action.now)) (plan_of self.now.above.now.list.items)) }
     {
         self.above
+            .recent()
             .iter()
             .find(|other| is_colliding(other, self.action))
             .map(|other| other.line)
@@ -101,25 +108,30 @@ impl Placed<'_> {
 
     // Whether it is an entry or goes on where some action above ended.
     fn is_from_somewhere(&self) -> bool
-        ensures { result ≡ from_somewhere (plan_of self.now.above.now) (action_of self.now.action.now) }
+        requires { falls (plan_of self.now.above.now.list.items) (action_of self.now.action.now) ≡ false }
+        ensures { result ≡ from_somewhere (plan_of self.now.above.now.list.items) (action_of self.now.action.now) }
     {
         self.action.work == Work::Entry
             || self
                 .above
+                .recent()
                 .iter()
                 .any(|other| is_going_on(self.action, other))
     }
 
     // Whether more spans than there may be robots hold its start, its own among them.
     fn is_crowded(&self, settings: &Settings) -> bool
-        ensures { result ≡ nat_lt (settings_of settings.now).robots (crowd (plan_of self.now.above.now) (action_of self.now.action.now)) }
+        requires { falls (plan_of self.now.above.now.list.items) (action_of self.now.action.now) ≡ false }
+        ensures { result ≡ nat_lt (settings_of settings.now).robots (crowd (plan_of self.now.above.now.list.items) (action_of self.now.action.now)) }
     {
-        running_at(self.above, self.action.span.start()) >= usize::from(settings.robots())
+        running_at(self.above.recent(), self.action.span.start()) >= usize::from(settings.robots())
     }
 
     // Refuses it by the first rule that it breaks, if it breaks one.
     fn check(&self, settings: &Settings) -> Result<(), Refusal>
-        ensures { (m : Meaning) → Settled m (plan_of self.now.above.now) → refusal_in result ≡ first_of (judge_tests m (settings_of settings.now) (plan_of self.now.above.now) (action_of self.now.action.now)) }
+        requires from { self.now.action.now.from.column < 256 }
+        requires to { self.now.action.now.to.column < 256 }
+        ensures { (m : Meaning) → Settled m (plan_of self.now.above.now.list.items) → refusal_in result ≡ first_of (judge_tests m (settings_of settings.now) (plan_of self.now.above.now.list.items) (action_of self.now.action.now)) }
     {
         let line = self.action.line;
         if self.is_falling() {
@@ -149,10 +161,10 @@ impl Placed<'_> {
 pub(crate) fn judge_line<G: Ground>(
     ground: &G,
     settings: &Settings,
-    above: &[Action],
+    above: &Actions,
     line: &ActLine,
 ) -> Result<Action, Refusal>
-    ensures { Settled (G.Ground.meaning ground.now) (plan_of above.now) → Answers (or_else (first_of (line_tests (G.Ground.meaning ground.now) (settings_of settings.now) line.now)) (first_of (judge_tests (G.Ground.meaning ground.now) (settings_of settings.now) (plan_of above.now) (written_action line.now)))) (λ a. action_of a ≡ written_action line.now) result }
+    ensures { Settled (G.Ground.meaning ground.now) (plan_of above.now.list.items) → Answers (or_else (first_of (line_tests (G.Ground.meaning ground.now) (settings_of settings.now) line.now)) (first_of (judge_tests (G.Ground.meaning ground.now) (settings_of settings.now) (plan_of above.now.list.items) (written_action line.now)))) (λ a. action_of a ≡ written_action line.now) result }
 {
     let action = action_of(ground, settings, line)?;
     let placed = Placed {

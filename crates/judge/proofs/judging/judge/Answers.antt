@@ -10,7 +10,6 @@ use Rattle.sheet.specs.View.{Records, records_in, sheet_of}
 use Rattle.plan.specs.Judged.{Timed}
 use Rattle.plan.specs.Plan.{Action as Step}
 use Rattle.plan.specs.Rules.{written_plan, target_of}
-use Rattle.plan.specs.View.{plan_of}
 use Rattle.judge.specs.Judging.{end_tests, judging_refusal}
 use Rattle.judge.specs.Reasons.{judging_reasons}
 use Rattle.judge.specs.Verdict.{Accepts, Keeps}
@@ -62,7 +61,7 @@ returns-in_err-judge_end g c =
     let p = err_from_is_err_and c.from_residual-in_err-judge_end.result c.from_residual-in_err-judge_end.ensures.1 in
     rw (p.1, p.2)
     (verdict m s sheet (timed c.args.settings.now) (Err refusal)
-    (at_end m s sheet r read.0 read.1 lines.0 ∙ ended m r (ap plan_of c.as_slice.ensures.value ∙ lines.1) ∙ sym c.in_err-judge_end.ensures))
+    (at_end m s sheet r read.0 read.1 lines.0 ∙ ended m r lines.1.0 ∙ sym (c.in_err-judge_end.ensures lines.1.1)))
 
 pub returns : goal.returns
 returns g c =
@@ -72,9 +71,9 @@ returns g c =
     let read = c.in_ok-read.ensures.value in
     let lines = c.in_ok-actions.ensures in
     let r = sheet_of c.in_ok-read.read in
-    let none = at_end m s sheet r read.0 read.1 lines.0 ∙ ended m r (ap plan_of c.as_slice.ensures.value ∙ lines.1) ∙ sym c.in_ok-judge_end.ensures in
+    let none = at_end m s sheet r read.0 read.1 lines.0 ∙ ended m r lines.1.0 ∙ sym (c.in_ok-judge_end.ensures lines.1.1) in
     let accepts : Accepting sheet c.accept.result = record {
-      plan = c.accept.ensures.plan.0 ∙ lines.1 ∙ ap (λ (x : Records). written_plan x.acts) read.1;
+      plan = c.accept.ensures.plan.0 ∙ lines.1.0 ∙ ap (λ (x : Records). written_plan x.acts) read.1;
       targets = c.accept.ensures.plan.1 ∙ ap (λ (x : Records). x.targets) read.1;
       figures = c.accept.ensures.figures;
     } in

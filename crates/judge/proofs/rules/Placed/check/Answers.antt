@@ -8,7 +8,7 @@ use Rattle.judge.proofs.rules.Placed.check.Goals as goal
 
 pub returns-then-is_falling : goal.returns-then-is_falling
 returns-then-is_falling c m so =
-    let tests = one_by_one m (settings_of c.args.settings.now) (plan_of c.args.self.now.above.now) (action_of c.args.self.now.action.now) in
+    let tests = one_by_one m (settings_of c.args.settings.now) (plan_of c.args.self.now.above.now.list.items) (action_of c.args.self.now.action.now) in
     grind (arith, common_steps)
 
 pub returns-in-Some : goal.returns-in-Some
