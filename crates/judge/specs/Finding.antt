@@ -1,4 +1,5 @@
--- What searches over actions find: the first of some kind, and the lowest column. Assumes nothing.
+-- What searches over actions find, the first of some kind and the lowest column; and what is kept of actions that were judged.
+-- Assumes nothing.
 use Rattle.std.specs.Prelude.{◌≡◌, ℕ, ◌+◌, ◌<◌, ◌≤◌, max, min, Bool, true, cond, not, ◌&&◌, ◌≢◌, List, [], ◌∷◌, length, take, count_by, slice_index_or, slice_set, Some, None, Option, nat_le, nat_lt}
 use Rattle.std.specs.Option.{option_map}
 use Rattle.terms.specs.declared.work.Work.TheVariants.{Leave}

@@ -16,7 +16,7 @@ pub(crate) struct Past {
 }
 
 // No more actions than a sheet can have. Those that are past ended before the last start: no later line has to look at them again.
-// The most is of those that run at one time.
+// `most` is the most that run at one time.
 #[derive(Drop)]
 pub(crate) struct Actions {
     pub(crate) list: Vec<Action>,
