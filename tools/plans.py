@@ -276,16 +276,23 @@ def break_byte(rng, rows):
         rows[i] = rows[i][:place] + bytes([byte]) + rows[i][place + 1:]
 
 
-def break_order(rng, rows):
-    i, j = rng.randrange(1, len(rows)), rng.randrange(1, len(rows))
-    kind = rng.randrange(5)
+def rearrange(rows, i, j, kind):
+    """Drops, swaps or doubles a row, for the kinds 0 to 2, and says whether it did."""
     if kind == 0:
         del rows[i]
     elif kind == 1:
         rows[i], rows[j] = rows[j], rows[i]
     elif kind == 2:
         rows.insert(i, rows[j])
-    elif kind == 3:
+    return kind < 3
+
+
+def break_order(rng, rows):
+    i, j = rng.randrange(1, len(rows)), rng.randrange(1, len(rows))
+    kind = rng.randrange(5)
+    if rearrange(rows, i, j, kind):
+        return
+    if kind == 3:
         rows.insert(j, rows.pop(i))
     else:
         rows.insert(i, note("".join(chr(rng.randint(32, 126)) for _ in range(30))))

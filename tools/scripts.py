@@ -252,13 +252,9 @@ def broken(rng, data):
         if not rows:
             break
         i, j, kind = rng.randrange(len(rows)), rng.randrange(len(rows)), rng.randrange(5)
-        if kind == 0:
-            del rows[i]
-        elif kind == 1:
-            rows[i], rows[j] = rows[j], rows[i]
-        elif kind == 2:
-            rows.insert(i, rows[j])
-        elif kind == 3:
+        if plans.rearrange(rows, i, j, kind):
+            continue
+        if kind == 3:
             rows.insert(i, rng.choice(MALFORMED + OPENS).encode("latin-1") + b"\n")
         else:
             place = rng.randrange(len(rows[i]))

@@ -1,5 +1,5 @@
 -- Clearing a site that is called from its opening: nothing runs, recall is obeyed, and no robot is left. Assumes nothing.
-use Rattle.std.proofs.Common.{◌≡◌, ℕ, zero, suc, ◌<◌, ◌≤◌, ◌⊎◌, inl, inr, List, [], ◌∷◌, length, map, replicate, Ok, Err, Result, refl, ap, sym, ◌∙◌, subst, arith}
+use Rattle.std.proofs.Common.{◌≡◌, ℕ, zero, suc, ◌<◌, ◌≤◌, ◌⊎◌, inl, inr, List, [], ◌∷◌, length, map, Ok, Err, Result, refl, ap, sym, ◌∙◌, subst, arith}
 use Rattle.std.proofs.lemmas.Bool.{cases_lt}
 use Rattle.terms.specs.Refusals.{Told}
 use Rattle.gate.specs.declared.call.Call.{Call}
@@ -15,17 +15,13 @@ use Rattle.play.proofs.Settling.{step_length, ticks_length}
 use Rattle.play.proofs.Standing.{plays_stand}
 use Rattle.play.proofs.Turns.{settle_on}
 use Rattle.service.specs.Deeds.{Deed, runs}
-use Rattle.service.proofs.Unfolding.{run_append}
+use Rattle.service.proofs.Unfolding.{run_append, run_ticks}
 use Rattle.console.specs.Halls.{cleared, clearing, home, homeward, left, made, obeyed, resting}
 
 -- ticks are ticks
 pub same_ticks : (n : ℕ) (v : Scene) → ticks n v ≡ after_ticks n v
 same_ticks zero v = refl
 same_ticks (suc n) v = same_ticks n (step v Tick)
-
-ticks_run : (n : ℕ) (v : Scene) → run v (replicate n Tick) ≡ ticks n v
-ticks_run zero v = refl
-ticks_run (suc n) v = ticks_run n (step v Tick)
 
 -- a site at which nothing runs is settled, and so is one that has rested
 quiet_settled : (v : Scene) → Settles v → Quiet v.columns → settled v ≡ v
@@ -54,7 +50,7 @@ rested_settled {v} f (Rested.tick moves r) = sym (settle_on v (step v Tick) refl
 -- the calls of clearing come to the site that is cleared
 made_runs : (v : Scene) (r : Result Order Told) → run v (made v r) ≡ obeyed v r
 made_runs v (Err t) = refl
-made_runs v (Ok o) = ticks_run (longest (step v (call_of o.column o.next)).columns 256) (step v (call_of o.column o.next))
+made_runs v (Ok o) = run_ticks (longest (step v (call_of o.column o.next)).columns 256) (step v (call_of o.column o.next))
 
 homeward_runs : (n : ℕ) (v : Scene) → run v (homeward n v) ≡ home n v
 homeward_runs zero v = refl
@@ -66,7 +62,7 @@ homeward_runs (suc n) v =
 pub clearing_runs : (v : Scene) → run v (clearing v) ≡ cleared v
 clearing_runs v =
     run_append (resting v) (Recall ∷ homeward (left (recall (settled v))) (settled v)) v
-    ∙ ap (λ w. run w (homeward (left (recall (settled v))) (settled v))) (ticks_run (longest v.columns 256) v)
+    ∙ ap (λ w. run w (homeward (left (recall (settled v))) (settled v))) (run_ticks (longest v.columns 256) v)
     ∙ homeward_runs (left (recall (settled v))) (settled v)
 
 -- obeying recall as often as it says is obeying it

@@ -17,6 +17,7 @@ use Rattle.play.specs.Play.{longest, settled, ticks}
 use Rattle.play.proofs.Settling.{step_length, ticks_length}
 use Rattle.play.proofs.Standing.{plays_stand}
 use Rattle.service.specs.Deeds.{Deed, calls_by_all, done, replies_to, reply_to, runs}
+use Rattle.service.proofs.Lasting.{runs_append}
 use Rattle.service.proofs.Standing.{whole}
 use Rattle.service.proofs.Unfolding.{runs_run}
 use Rattle.console.specs.declared.command.Command.{Command}
@@ -32,10 +33,6 @@ use Rattle.console.proofs.Spelled.{spelled_so, unread_so}
 use Rattle.console.proofs.Clearing.{calls_runs, clearing_runs, obeyed_home, same_ticks}
 
 -- deeds one after the other
-runs_append : (ds es : List Deed) (v : Scene) → runs v (ds ++ es) ≡ runs (runs v ds) es
-runs_append [] es v = refl
-runs_append (d ∷ ds) es v = runs_append ds es (done v d)
-
 replies_append : (ds es : List Deed) (v : Scene) → replies_to v (ds ++ es) ≡ replies_to v ds ++ replies_to (runs v ds) es
 replies_append [] es v = refl
 replies_append (d ∷ ds) es v = ap (λ rs. reply_to v d ∷ rs) (replies_append ds es (done v d))
@@ -127,7 +124,7 @@ module _ (m : Meaning) (s : SiteSettings) (law : Lawful m) (ok : Proper s) where
       let told : replies_to h.scene ds ++ replies_to (after_line h e).scene (deeds (after_line h e) es) ≡ replies_to h.scene (ds ++ deeds (after_line h e) es) =
       ap (λ v. replies_to h.scene ds ++ replies_to v (deeds (after_line h e) es)) d.1 ∙ sym (replies_append ds (deeds (after_line h e) es) h.scene) in
       subst (λ rs. Lines h (e ∷ es) (ds ++ deeds (after_line h e) es) rs (printed h (e ∷ es))) told
-      (Lines.line (λ z. let n : suc (length ws) ≡ 0 = ap length z in absurd (omega (arith, n))) d.0 d.1 on)
+      (Lines.line (λ z. let n : suc (length ws) ≡ 0 = ap length z in absurd (omega (arith, n))) d.0 refl d.1 on)
 
   lines_so : (before : List Deed) (h : Hall) → h.scene ≡ runs (opened m s) before → (es : List Entry)
       → Lines h es (deeds h es) (replies_to h.scene (deeds h es)) (printed h es)

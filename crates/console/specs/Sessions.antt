@@ -9,7 +9,7 @@ use Rattle.gate.specs.declared.call.Call.TheVariants.{Tick}
 use Rattle.gate.specs.Scene.{Scene, opened}
 use Rattle.undertaking.specs.Obeying.{Empty, Obeyed, Quiet}
 use Rattle.undertaking.specs.Runs.{Reply, after_ticks, run}
-use Rattle.service.specs.Deeds.{Deed, runs}
+use Rattle.service.specs.Deeds.{Deed, replies_to, runs}
 use Rattle.service.specs.Whole.{Whole}
 use Rattle.console.specs.declared.command.Command.{Command}
 use Rattle.console.specs.declared.command.Command.TheVariants.{Makes, Ticks, Clear, Look, Play}
@@ -46,12 +46,13 @@ pub data Line (h : Hall) (e : Entry) : List Deed → List Reply → List ℕ →
   bad_sheet : (t : Told) → Spells e.words Play → 0 < h.sheets → sheet_refusal h.scene e.sheet ≡ Some t → Line h e [] [] (refusal_text t)
   no_sheet_left : Spells e.words Play → h.sheets ≡ 0 → Line h e [] [] (expected_text FewerSheets)
 
--- what lines do in a hall, one after the other; each finds the site as the deeds above left it
+-- what lines do in a hall, one after the other; each finds the site as the deeds above left it, and its answers are those to its deeds
 pub data Lines : Hall → List Entry → List Deed → List Reply → List ℕ → Type 0 where
   end : {h : Hall} → Lines h [] [] [] []
   silent : {h : Hall} {e : Entry} {es : List Entry} {ds : List Deed} {rs : List Reply} {t : List ℕ} → e.words ≡ [] → Lines h es ds rs t → Lines h (e ∷ es) ds rs t
   line : {h : Hall} {e : Entry} {es : List Entry} {ds more : List Deed} {rs others : List Reply} {t rest : List ℕ}
-      → (e.words ≡ [] → ⊥) → Line h e ds rs t → (after_line h e).scene ≡ runs h.scene ds → Lines (after_line h e) es more others rest
+      → (e.words ≡ [] → ⊥) → Line h e ds rs t → rs ≡ replies_to h.scene ds → (after_line h e).scene ≡ runs h.scene ds
+      → Lines (after_line h e) es more others rest
       → Lines h (e ∷ es) (ds ++ more) (rs ++ others) (labelled e.line t ++ rest)
 
 -- what lines do on a site from its opening: of their deeds and answers all holds that is undertaken of any list of the eight calls

@@ -12,12 +12,12 @@ ghost use Rattle.console.specs.View.{MadeBy, Makes, entry_of, made_hall, opening
 use crate::desk::Desk;
 use crate::entry::Entry;
 use crate::hall::Hall;
-use crate::lines::Script;
 use crate::lists::Lists;
 use crate::made::Made;
 use crate::opening::{Numbers, Opening};
+use crate::page::Page;
+use crate::script::Script;
 use crate::serving::serve;
-use crate::text::Page;
 use crate::usage::Usage;
 use crate::words::Words;
 use gate::{Plot, Site};

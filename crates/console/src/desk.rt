@@ -2,7 +2,7 @@
 ghost use Rattle.std.specs.Prelude.{◌≡◌, vec_len};
 
 use crate::lists::Lists;
-use crate::text::MOST_BYTES;
+use crate::page::MOST_BYTES;
 use gate::Plot;
 use judge::Room;
 use terms::Reserve;

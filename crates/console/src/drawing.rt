@@ -3,7 +3,7 @@ ghost use Rattle.std.specs.Prelude.{◌≡◌, ◌+◌, ◌*◌, ◌<◌, ◌≤
 ghost use Rattle.gate.specs.View.{scene_of};
 ghost use Rattle.console.specs.Drawing.{cell, counts_text, drawing, mark, part_mark};
 
-use crate::text::Page;
+use crate::page::Page;
 use draw::justified;
 use gate::{Column, Part, Site, State};
 use ground::Ground;

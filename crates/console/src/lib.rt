@@ -3,11 +3,11 @@
 
 mod answering;
 mod command;
+mod cut;
 mod desk;
 mod drawing;
 mod entry;
 mod hall;
-mod lines;
 mod lists;
 mod made;
 mod opening;
@@ -16,8 +16,8 @@ mod page;
 mod reading;
 mod script;
 mod serving;
-mod text;
 mod usage;
+mod wording;
 mod words;
 
 pub use answering::answer;

@@ -6,10 +6,10 @@ ghost use Rattle.console.specs.Commands.{behind, first_number, first_column};
 ghost use Rattle.console.specs.Openings.{behind_three, border_in, ends_in, kind_in, link_in, links_in, listing_in, numbers_in, opening_in, square_in};
 ghost use Rattle.console.specs.View.{opening_of};
 
+use crate::cut::place_of;
 use crate::lists::Lists;
 use crate::opening::{Numbers, Opening};
 use crate::reading::{column_in, next_column};
-use crate::script::place_of;
 use crate::words::Words;
 use sheet::number;
 use std::alloc::{AllocError, Global};

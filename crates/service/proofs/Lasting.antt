@@ -10,7 +10,7 @@ use Rattle.service.specs.Deeds.{Deed, calls_by_all, done, runs}
 use Rattle.service.specs.Lasting.{LastsThrough}
 use Rattle.service.proofs.Unfolding.{run_append, runs_run}
 
-runs_append : (ds es : List Deed) (v : Scene) → runs v (ds ++ es) ≡ runs (runs v ds) es
+pub runs_append : (ds es : List Deed) (v : Scene) → runs v (ds ++ es) ≡ runs (runs v ds) es
 runs_append [] es v = refl
 runs_append (d ∷ ds) es v = runs_append ds es (done v d)
 

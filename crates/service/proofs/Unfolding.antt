@@ -15,7 +15,7 @@ pub run_append : (ks ls : List Call) (v : Scene) → run v (ks ++ ls) ≡ run (r
 run_append [] ls v = refl
 run_append (k ∷ ks) ls v = run_append ks ls (step v k)
 
-run_ticks : (n : ℕ) (v : Scene) → run v (replicate n Tick) ≡ ticks n v
+pub run_ticks : (n : ℕ) (v : Scene) → run v (replicate n Tick) ≡ ticks n v
 run_ticks zero v = refl
 run_ticks (suc n) v = run_ticks n (step v Tick)
 

@@ -1,7 +1,7 @@
 use Rattle.std.proofs.Common.{◌+◌, ◌≤◌, length, arith, ap, sym, ◌∙◌}
 use Rattle.console.specs.Lines.{entries, lines}
 use Rattle.console.proofs.Lining.{next_is, stays_within}
-use Rattle.console.proofs.lines.Script.next_entry.Goals as goal
+use Rattle.console.proofs.script.Script.next_entry.Goals as goal
 
 stays : (c : goal.After-rest-2-1) → c.self.inside.line + 1 + c.cut_below-count.result.count + length (lines c.cut_below-count.result.rest.now) ≤ 8194
 stays c =

@@ -2,7 +2,7 @@ use Rattle.std.proofs.Common.{ℕ, Bool, eqb, rules, tests}
 use Rattle.std.proofs.lemmas.Iterator.{YieldsList-from_slice}
 use Rattle.std.proofs.lemmas.Iterator.Search.{position_from_yields_List}
 use Rattle.console.proofs.Cutting.{end_is}
-use Rattle.console.proofs.script.place_of.Goals as goal
+use Rattle.console.proofs.cut.place_of.Goals as goal
 
 pub returns-clause-value : goal.returns-clause-value
 returns-clause-value c =

@@ -1,6 +1,6 @@
 use Rattle.std.proofs.Common.{length}
 use Rattle.console.proofs.Lining.{Taken}
-use Rattle.console.proofs.script.cut_sheet.Given as goal
+use Rattle.console.proofs.cut.cut_sheet.Given as goal
 
 abbrev pub invariant-loop-ended : goal.invariant-loop-ended
 invariant-loop-ended l = Taken l.text l.rest l.count l.ended

@@ -1,6 +1,6 @@
 use Rattle.std.proofs.Common.{codes, ◌∙◌}
 use Rattle.console.proofs.Writing.{three_named}
-use Rattle.console.proofs.text.Page.put_counts.Goals as goal
+use Rattle.console.proofs.page.Page.put_counts.Goals as goal
 
 pub returns-clause-value : goal.returns-clause-value
 returns-clause-value g c =

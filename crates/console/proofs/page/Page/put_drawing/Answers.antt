@@ -4,7 +4,7 @@ use Rattle.gate.specs.declared.column.Column.{Column}
 use Rattle.gate.specs.View.{scene_of}
 use Rattle.console.specs.Drawing.{cell}
 use Rattle.console.proofs.Writing.{one_piece}
-use Rattle.console.proofs.text.Page.put_drawing.Goals as goal
+use Rattle.console.proofs.page.Page.put_drawing.Goals as goal
 
 pub loop-column-preserved : goal.loop-column-preserved
 loop-column-preserved g c =

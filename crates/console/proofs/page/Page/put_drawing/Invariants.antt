@@ -3,7 +3,7 @@ use Rattle.std.specs.List.{flat_map, range_with_len}
 use Rattle.gate.specs.Scene.{at}
 use Rattle.gate.specs.View.{scene_of}
 use Rattle.console.specs.Drawing.{cell}
-use Rattle.console.proofs.text.Page.put_drawing.Given as goal
+use Rattle.console.proofs.page.Page.put_drawing.Given as goal
 
 -- the cells of the columns so far are there
 abbrev pub invariant-loop-column : goal.invariant-loop-column

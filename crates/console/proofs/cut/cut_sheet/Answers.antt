@@ -1,6 +1,6 @@
 use Rattle.std.proofs.Common.{arith}
 use Rattle.console.proofs.Lining.{takes_one}
-use Rattle.console.proofs.script.cut_sheet.Goals as goal
+use Rattle.console.proofs.cut.cut_sheet.Goals as goal
 
 pub loop-ended-preserved : goal.loop-ended-preserved
 loop-ended-preserved c =
