@@ -10,12 +10,11 @@ use Rattle.gate.specs.Column.{fresh}
 use Rattle.gate.specs.Gate.{step}
 use Rattle.gate.specs.Recall.{recall}
 use Rattle.gate.specs.Scene.{Scene, opened}
-use Rattle.undertaking.specs.Obeying.{Obeyed, Quiet}
-use Rattle.undertaking.specs.Runs.{Reply, after_ticks, run}
+use Rattle.undertaking.specs.Obeying.{Obeyed}
+use Rattle.gate.specs.Time.{Quiet, after_ticks, longest, settled}
+use Rattle.undertaking.specs.Runs.{Reply, run}
 use Rattle.undertaking.proofs.Plain.{Proper}
-use Rattle.play.specs.Play.{longest, settled, ticks}
-use Rattle.play.proofs.Settling.{step_length, ticks_length}
-use Rattle.play.proofs.Standing.{plays_stand}
+use Rattle.gate.proofs.Waiting.{settles_so}
 use Rattle.service.specs.Deeds.{Deed, calls_by_all, done, replies_to, reply_to, runs}
 use Rattle.service.proofs.Lasting.{runs_append}
 use Rattle.service.proofs.Standing.{whole}
@@ -30,14 +29,14 @@ use Rattle.console.specs.Texts.{reply_text}
 use Rattle.console.specs.Sessions.{Clears, Line, Lines, Session}
 use Rattle.console.specs.Spelling.{Spells}
 use Rattle.console.proofs.Spelled.{spelled_so, unread_so}
-use Rattle.console.proofs.Clearing.{calls_runs, clearing_runs, obeyed_home, same_ticks}
+use Rattle.console.proofs.Clearing.{calls_runs, clearing_runs, obeyed_home}
 
 -- deeds one after the other
 replies_append : (ds es : List Deed) (v : Scene) → replies_to v (ds ++ es) ≡ replies_to v ds ++ replies_to (runs v ds) es
 replies_append [] es v = refl
 replies_append (d ∷ ds) es v = ap (λ rs. reply_to v d ∷ rs) (replies_append ds es (done v d))
 
-ticks_runs : (n : ℕ) (v : Scene) → runs v (replicate n (Deed.call Tick)) ≡ ticks n v
+ticks_runs : (n : ℕ) (v : Scene) → runs v (replicate n (Deed.call Tick)) ≡ after_ticks n v
 ticks_runs zero v = refl
 ticks_runs (suc n) v = ticks_runs n (step v Tick)
 
@@ -45,31 +44,15 @@ ticks_granted : (n : ℕ) (v : Scene) → replies_to v (replicate n (Deed.call T
 ticks_granted zero v = refl
 ticks_granted (suc n) v = ap (λ rs. Reply.granted ∷ rs) (ticks_granted n (step v Tick))
 
-run_length : (ks : List Call) (v : Scene) → length (run v ks).columns ≡ length v.columns
-run_length [] v = refl
-run_length (k ∷ ks) v = run_length ks (step v k) ∙ step_length v k
-
 module _ (m : Meaning) (s : SiteSettings) (law : Lawful m) (ok : Proper s) where
-  few_columns : (before : List Deed) → length (runs (opened m s) before).columns ≤ 256
-  few_columns before =
-      let here : length (runs (opened m s) before).columns ≡ length (run (opened m s) (calls_by_all (opened m s) before)).columns =
-      ap (λ (v : Scene). length v.columns) (runs_run before (opened m s)) in
-      let same = run_length (calls_by_all (opened m s) before) (opened m s) in
-      let all = length-replicate m.columns fresh in
-      omega (arith, here, same, all, law.few)
-
   -- clearing a site that was opened and only called
   clears_after : (before : List Deed) → Clears (runs (opened m s) before) (clearing (runs (opened m s) before)) (left (recall (settled (runs (opened m s) before))))
   clears_after before =
       let v = runs (opened m s) before in
-      let n = longest v.columns 256 in
-      let few = few_columns before in
-      let same : settled v ≡ after_ticks n v = same_ticks n v in
-      let quiet : Quiet (after_ticks n v).columns = subst (λ (u : Scene). Quiet u.columns) same (plays_stand.settles v few).quiet in
+      let n = longest v.columns in
+      let quiet = (settles_so v).quiet in
       let c = (whole m s law ok before).clears n quiet in
-      let long = ticks_length n v in
-      let obeys : Obeyed (settled v) c.0 c.1 = subst (λ u. Obeyed u c.0 c.1) (sym same) c.3 in
-      let home = obeyed_home (settled v) c.1 c.0 (omega (arith, few, long)) obeys in
+      let home = obeyed_home (settled v) c.1 c.0 c.3 in
       record {
         ticks = n;
         quiet = quiet;

@@ -13,7 +13,8 @@ use Rattle.sheet.specs.View.{records_in}
 use Rattle.plan.specs.Plan.{Action}
 use Rattle.plan.specs.Rules.{written_plan}
 use Rattle.judge.specs.Judging.{judging_refusal}
-use Rattle.play.specs.Play.{longest, play_on, settled, ticks}
+use Rattle.play.specs.Play.{play_on}
+use Rattle.gate.specs.Time.{after_ticks, longest, settled}
 use Rattle.service.specs.Deeds.{Deed}
 use Rattle.console.specs.declared.command.Command.{Command}
 use Rattle.console.specs.declared.command.Command.TheVariants.{Makes, Ticks, Clear, Look, Play}
@@ -32,7 +33,7 @@ pub record Hall : Type 0 where
 
 -- ticks until nothing runs
 abbrev pub resting : Scene → List Call
-resting v = replicate (longest v.columns 256) Tick
+resting v = replicate (longest v.columns) Tick
 
 -- obeying recall once: it is asked, the action that it names is made, and ticks until nothing runs
 abbrev pub made : Scene → Result Order Told → List Call
@@ -124,7 +125,7 @@ sheet_scene (suc n) v sheet = played_scene v sheet
 abbrev pub scene_after : Hall → List ℕ → Result Command Usage → Scene
 scene_after h sheet (Err u) = h.scene
 scene_after h sheet (Ok (Makes k)) = step h.scene k
-scene_after h sheet (Ok (Ticks n)) = ticks n h.scene
+scene_after h sheet (Ok (Ticks n)) = after_ticks n h.scene
 scene_after h sheet (Ok Clear) = cleared h.scene
 scene_after h sheet (Ok Look) = h.scene
 scene_after h sheet (Ok Play) = sheet_scene h.sheets h.scene sheet

@@ -7,8 +7,9 @@ use Rattle.ground.specs.Meaning.{Meaning}
 use Rattle.gate.specs.declared.call.Call.{Call}
 use Rattle.gate.specs.declared.call.Call.TheVariants.{Tick}
 use Rattle.gate.specs.Scene.{Scene, opened}
-use Rattle.undertaking.specs.Obeying.{Empty, Obeyed, Quiet}
-use Rattle.undertaking.specs.Runs.{Reply, after_ticks, run}
+use Rattle.undertaking.specs.Obeying.{Empty, Obeyed}
+use Rattle.gate.specs.Time.{Quiet, after_ticks}
+use Rattle.undertaking.specs.Runs.{Reply, run}
 use Rattle.service.specs.Deeds.{Deed, replies_to, runs}
 use Rattle.service.specs.Whole.{Whole}
 use Rattle.console.specs.declared.command.Command.{Command}

@@ -2,7 +2,7 @@
 ghost use Rattle.std.specs.Prelude.{◌≡◌, ◌+◌, ◌*◌, ◌≤◌, ◌++◌, length, Ok};
 ghost use Rattle.gate.specs.Recall.{recall};
 ghost use Rattle.gate.specs.View.{scene_of};
-ghost use Rattle.play.specs.Play.{settled, ticks};
+ghost use Rattle.gate.specs.Time.{settled};
 ghost use Rattle.undertaking.specs.Obeying.{call_of};
 ghost use Rattle.undertaking.specs.Runs.{reply_of};
 ghost use Rattle.console.specs.Commands.{command_in};
@@ -19,7 +19,6 @@ use crate::usage::Usage;
 use gate::{Call, Next, Order, Site};
 use ground::Ground;
 use judge::{Room, judge};
-use play::{settle, wait};
 use service::Deed;
 use undertaking::{Answer, Request};
 
@@ -44,7 +43,7 @@ fn obey<G: Ground>(site: &mut Site<G>)
 {
     if let Ok(order) = site.recall() {
         let _ = call_of(order).make(site);
-        settle(site);
+        site.settle();
     }
 }
 
@@ -53,7 +52,7 @@ fn clear<G: Ground>(site: &mut Site<G>) -> u32
     ensures value { result ≡ left (recall (settled (scene_of site.old))) }
     ensures after { scene_of site.new ≡ cleared (scene_of site.old) }
 {
-    settle(site);
+    site.settle();
     let actions = site.recall().map_or(0, |order| order.left);
     for _action in 0..actions {
         obey(site);
@@ -80,7 +79,7 @@ fn serve_command<G: Ground>(hall: &mut Hall<G>, command: Command, sheet: &[u8], 
     match command {
         Command::Makes(call) => page.put_answer(call.make(&mut hall.site)),
         Command::Ticks(times) => {
-            wait(&mut hall.site, 0, times);
+            hall.site.wait(times);
             page.put(b"granted");
         }
         Command::Clear => {

@@ -8,3 +8,4 @@ pub mod Picks
 pub mod Recalling
 pub mod Least
 pub mod Ticked
+pub mod Waiting

@@ -137,16 +137,13 @@ impl State {
 }
 
 impl Column {
-    // One timestep passes: the column goes on from its own state.
+    // One timestep passes. Form: a match on the column's own state, with what is left of its action, in place.
     pub(crate) fn tick(&mut self)
         ensures { self.new ≡ ticked self.old }
     {
-        match self.state {
+        match &mut self.state {
             State::Free | State::Standing { .. } => {}
-            State::Busy { part, left } if left > 1 => self.state = State::Busy {
-                part,
-                left: left - 1,
-            },
+            State::Busy { left, .. } if *left > 1 => *left -= 1,
             State::Busy { part, .. } => *self = part.end(self.height),
         }
     }

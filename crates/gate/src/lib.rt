@@ -10,6 +10,7 @@ mod plot;
 mod recall;
 mod rules;
 mod site;
+mod time;
 mod trial;
 
 pub use call::Call;

@@ -12,7 +12,7 @@ use ways::Ways;
 
 impl<G: Ground> Site<G> {
     // Whether an action runs.
-    fn any_runs(&self) -> bool
+    pub(crate) fn any_runs(&self) -> bool
         ensures { result ≡ any_runs (scene_of self.now).meaning (scene_of self.now).columns }
     {
         self.columns.iter().any(|here| here.state.runs())

@@ -1,6 +1,6 @@
 // The columns linked with a column, one after the other in rising order.
-ghost use Rattle.std.specs.Prelude.{◌≡◌};
-ghost use Rattle.std.specs.Iterator.{YieldsFirst, item_count};
+ghost use Rattle.std.specs.Prelude.{◌≡◌, ◌-◌};
+ghost use Rattle.std.specs.Iterator.{YieldsFirst, at_most};
 ghost use Rattle.ground.specs.Meaning.{neighbours};
 ghost use Rattle.ground.specs.Walk.{still_linked};
 
@@ -32,9 +32,13 @@ impl<'a, G: Ground> Iterator for Neighbours<'a, G> {
 
     ghost next_gives = { YieldsFirst (still_linked G.Ground.meaning) };
 
-    ghost remaining = { item_count (still_linked G.Ground.meaning) };
+    ghost remaining = { λ walk. at_most (G.Ground.MOST_LINKS - walk.next) };
 
+    // Form: the most links of the kind bound the walk, and every walk along links goes through this one.
     fn next(&mut self) -> Option<u16> {
+        if self.next >= G::MOST_LINKS {
+            return None;
+        }
         let linked = self.ground.link(self.column, self.next)?;
         self.next += 1;
         Some(linked)

@@ -7,21 +7,12 @@ use Rattle.gate.specs.Column.{column, fresh}
 use Rattle.gate.specs.Scene.{Columns, at, put, state_at}
 use Rattle.gate.specs.Scene.{height_at as height_in}
 use Rattle.plan.specs.Plan.{Action, Touches}
-use Rattle.play.specs.Play.{left, longest}
 use Rattle.play.specs.Shown.{shown}
 
 pub at_opened : (n c : ℕ) → at (replicate n fresh) c ≡ fresh
 at_opened zero c = refl
 at_opened (suc n) zero = refl
 at_opened (suc n) (suc c) = at_opened n c
-
-pub longest_is : (xs : Columns) (n c : ℕ) → c < n → left (state_at xs c) ≤ longest xs n
-unfolding longest
-longest_is xs zero c l = absurd (omega arith)
-longest_is xs (suc n) c l = elim (cases_eq c n) [
-  | inl e ↦ omega (arith, ap (λ (x : ℕ). left (state_at xs x)) e)
-  | inr o ↦ omega (arith, longest_is xs n c (omega arith))
-]
 
 pub put_height : (xs : Columns) (c : ℕ) (z : State) (d : ℕ) → height_in (put xs c z) d ≡ height_in xs d
 put_height [] c z d = refl

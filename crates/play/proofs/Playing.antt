@@ -14,14 +14,15 @@ use Rattle.gate.specs.Scene.{Columns, Scene, state_at, tick_all}
 use Rattle.gate.specs.Scene.{height_at as height_in}
 use Rattle.gate.specs.Words.{Stranded}
 use Rattle.plan.specs.Plan.{Action, line, no_action}
-use Rattle.play.specs.Play.{call_of, called, left, longest, play, ready, refusal_of, ticks, unless}
+use Rattle.gate.specs.Time.{after_ticks, left, longest}
+use Rattle.gate.proofs.Waiting.{longest_is}
+use Rattle.play.specs.Play.{call_of, called, play, ready, refusal_of, unless}
 use Rattle.play.specs.Shown.{Holder, changes_height, shown, shown_by}
 use Rattle.play.specs.Shown.Holder.{by_running, by_ended}
 use Rattle.play.specs.Strands.{Strands}
 use Rattle.play.specs.Stands.{Comes}
 use Rattle.play.specs.Stands.Comes.{ends, stops}
 use Rattle.play.proofs.Faces.{leave_or_not}
-use Rattle.play.proofs.Columns.{longest_is}
 use Rattle.play.proofs.Plans.{Obeys, goes_on}
 use Rattle.play.proofs.Site.{Shows}
 use Rattle.play.proofs.Ticking.{shows_tick}
@@ -44,13 +45,13 @@ module _ {m : Meaning} {s : SiteSettings} {plan : List Action} {targets : ℕ �
   -- ---- time passes
 
   ticked : (d k t : ℕ) (xs : Columns) (ms : List ℕ) → Shows m plan k t xs → Marked xs ms → ((i : ℕ) → k ≤ i → i < length plan → t + d ≤ (line plan i).start)
-      → Showing m s plan k (t + d) (ticks d (site m s xs ms))
+      → Showing m s plan k (t + d) (after_ticks d (site m s xs ms))
   ticked zero k t xs ms sh mk h =
       let e : t ≡ t + 0 = omega arith in
       record { columns = xs; marks = ms; is = refl; shows = subst (λ (u : ℕ). Shows m plan k u xs) e sh; marked = mk }
   ticked (suc d) k t xs ms sh mk h =
       let e : suc t + d ≡ t + suc d = omega arith in
-      subst (λ (u : ℕ). Showing m s plan k u (ticks d (site m s (tick_all xs) (granted_marks m xs ms Tick)))) e
+      subst (λ (u : ℕ). Showing m s plan k u (after_ticks d (site m s (tick_all xs) (granted_marks m xs ms Tick)))) e
       (ticked d k (suc t) (tick_all xs) (granted_marks m xs ms Tick) (shows_tick ob sh (λ i g l. omega (arith, h i g l)))
       (marked_tick m sh.size ob.law.few mk) (λ i g l. omega (arith, h i g l)))
 
@@ -65,31 +66,31 @@ module _ {m : Meaning} {s : SiteSettings} {plan : List Action} {targets : ℕ �
 
   module _ (now : ℕ) (xs : Columns) (sh : Shows m plan (length plan) now xs) where
     -- the last actions to run are leaves, and the ticks see them through
-    all_ended : (i : ℕ) → i < length plan → (line plan i).end ≤ now + longest xs 256
-    all_ended i l = elim (cases_lt (now + longest xs 256) (line plan i).end) [ inl g ↦ absurd (go g (leave_or_not (line plan i).work)) | inr g ↦ g ]
+    all_ended : (i : ℕ) → i < length plan → (line plan i).end ≤ now + longest xs
+    all_ended i l = elim (cases_lt (now + longest xs) (line plan i).end) [ inl g ↦ absurd (go g (leave_or_not (line plan i).work)) | inr g ↦ g ]
       where
-        go : now + longest xs 256 < (line plan i).end → ((line plan i).work ≡ Leave) ⊎ ((line plan i).work ≢ Leave) → ⊥
+        go : now + longest xs < (line plan i).end → ((line plan i).work ≡ Leave) ⊎ ((line plan i).work ≢ Leave) → ⊥
         go g (inl e) =
             let f : ℕ = (line plan i).from in
             let seen = sh.running i f l (record { begun = sh.begun i l; before_end = omega arith }) (inl refl) in
             let rest : left (shown (line plan i) now f) ≡ max 1 ((line plan i).end - now) =
             ap (λ (w : Work). left (shown_by w (line plan i).carry f (line plan i).to ((line plan i).end - now) (eqb f f))) e in
-            omega (arith, longest_is xs 256 f (omega (arith, (ob.rules.on_scale i l).from_ground, ob.law.few)), ap left seen, rest)
+            omega (arith, longest_is xs f, ap left seen, rest)
         go g (inr n) =
             let (j, lj, st) = ob.rules.carried_on i l n in
             omega (arith, sh.begun j lj, st.when)
 
-    module _ (ys : Columns) (end : Shows m plan (length plan) (now + longest xs 256) ys) where
+    module _ (ys : Columns) (end : Shows m plan (length plan) (now + longest xs) ys) where
       free_end : (c : ℕ) → state_at ys c ≡ Free
       free_end c = go (end.explained c)
         where
-          go : (state_at ys c ≡ Free) ⊎ Holder plan (length plan) (now + longest xs 256) c → state_at ys c ≡ Free
+          go : (state_at ys c ≡ Free) ⊎ Holder plan (length plan) (now + longest xs) c → state_at ys c ≡ Free
           go (inl e) = e
           go (inr (by_running i l r w)) = absurd (omega (arith, all_ended i l, r.before_end))
           go (inr (by_ended i l e n)) = let (j, lj, st) = goes_on ob i l e in absurd (n j lj st)
 
       high_end : (c : ℕ) → c < m.columns → height_in ys c ≡ targets c
-      high_end c l = omega (arith, end.raised c, ob.rules.reached c (now + longest xs 256) l all_ended)
+      high_end c l = omega (arith, end.raised c, ob.rules.reached c (now + longest xs) l all_ended)
 
   -- ---- action by action
 
@@ -142,7 +143,7 @@ module _ {m : Meaning} {s : SiteSettings} {plan : List Action} {targets : ℕ �
       let no_more : drop k plan ≡ [] = drop_all k plan (omega arith) in
       let all : k ≡ length plan = omega arith in
       let sh' = subst (λ (x : ℕ). Shows m plan x now xs) all sh in
-      let end = ticked (longest xs 256) (length plan) now xs ms sh' mk (λ i g l. absurd (omega arith)) in
+      let end = ticked (longest xs) (length plan) now xs ms sh' mk (λ i g l. absurd (omega arith)) in
       subst (λ (r : List Action). Comes m s plan targets (play r now (site m s xs ms))) (sym no_more)
       (subst (λ (v : Scene). Comes m s plan targets (record { answer = None; site = v })) (sym end.is)
       (ends (site m s end.columns end.marks) (λ j c st. none j c (omega (arith, st.there)) st)

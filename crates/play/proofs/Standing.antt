@@ -7,6 +7,7 @@ use Rattle.terms.specs.Refusals.{told}
 use Rattle.gate.specs.declared.column.Column.{Column}
 use Rattle.gate.specs.Column.{changes, fresh}
 use Rattle.gate.specs.Scene.{Scene, one_if}
+use Rattle.gate.proofs.Waiting.{settles_so}
 use Rattle.plan.specs.Plan.{Action}
 use Rattle.play.specs.Play.{Blank, Fresh, Outcome, is_fresh, play, play_on}
 use Rattle.play.specs.Stands.{PlaysStand}
@@ -16,7 +17,6 @@ use Rattle.play.proofs.Marks.{Marked}
 use Rattle.play.proofs.Plans.{Obeys}
 use Rattle.play.proofs.Playing.{from_line}
 use Rattle.play.proofs.Relation.{played_so}
-use Rattle.play.proofs.Settling.{settles_so}
 use Rattle.play.proofs.Site.{shows_fresh}
 
 blank : (c : ℕ) → ◌≡◌ {A = ℕ} (get_or (replicate 256 0) c 0) 0

@@ -1,16 +1,16 @@
 -- Playing a list of actions: by the gate's own definitions, and as a relation. Assumes nothing.
-use Rattle.std.specs.Prelude.{◌≡◌, ℕ, zero, suc, ◌-◌, ◌<◌, max, Bool, false, cond, ◌&&◌, List, [], ◌∷◌, length, Some, None, Option, ◌==◌, slice_index}
+use Rattle.std.specs.Prelude.{◌≡◌, ℕ, ◌-◌, ◌<◌, Bool, false, cond, ◌&&◌, List, [], ◌∷◌, length, Some, None, Option, ◌==◌, slice_index}
 use Rattle.terms.specs.Refusals.{Told, told}
 use Rattle.terms.specs.declared.refusal.Rule.TheVariants.{NotFresh}
 use Rattle.terms.specs.declared.work.Work.{Work}
 use Rattle.terms.specs.declared.work.Work.TheVariants.{Entry, Leave as LeaveWork, Wait, Move as MoveWork, PickUp, Deliver}
 use Rattle.gate.specs.declared.call.Call.{Call}
-use Rattle.gate.specs.declared.call.Call.TheVariants.{Enter, Move, Lay, Lift, Leave, Tick}
-use Rattle.gate.specs.declared.column.State.{State}
-use Rattle.gate.specs.declared.column.State.TheVariants.{Free, Standing, Busy}
-use Rattle.gate.specs.Column.{robot, runs}
-use Rattle.gate.specs.Scene.{Columns, Scene, blocks_standing, height_at, robots, state_at}
+use Rattle.gate.specs.declared.call.Call.TheVariants.{Enter, Move, Lay, Lift, Leave}
+use Rattle.gate.specs.declared.column.State.TheVariants.{Free}
+use Rattle.gate.specs.Column.{robot}
+use Rattle.gate.specs.Scene.{Scene, blocks_standing, height_at, robots, state_at}
 use Rattle.gate.specs.Gate.{grant, refusal, step}
+use Rattle.gate.specs.Time.{Quiet, after_ticks, settled}
 use Rattle.plan.specs.Plan.{Action}
 
 -- the call that a work names, from a column f, with another column o, of a robot with or without a block; a wait names none
@@ -34,30 +34,6 @@ abbrev pub called : Scene → Option Call → Scene
 called v None = v
 called v (Some k) = step v k
 
--- n ticks later
-abbrev pub ticks : ℕ → Scene → Scene
-ticks zero v = v
-ticks (suc n) v = ticks n (step v Tick)
-
--- nothing runs
-abbrev pub Quiet : Scene → Type 0
-Quiet v = (c : ℕ) → runs (state_at v.columns c) ≡ false
-
--- the ticks until a column has ended what it does: an action that runs takes one at least
-abbrev pub left : State → ℕ
-left Free = 0
-left (Standing block) = 0
-left (Busy part n) = max 1 n
-
--- the most ticks that are left at the columns below n
-unfoldable pub longest : Columns → ℕ → ℕ
-longest xs zero = 0
-longest xs (suc n) = max (left (state_at xs n)) (longest xs n)
-
--- ticks until nothing runs; no ground has more than 256 columns
-abbrev pub settled : Scene → Scene
-settled v = ticks (longest v.columns 256) v
-
 -- what play answers, a refusal or none, and the site that it leaves
 pub record Outcome : Type 0 where
   pub answer : Option Told
@@ -74,7 +50,7 @@ unless (Some t) line v on = record { answer = Some (on_line line t); site = v }
 
 -- the site at the start of an action, where the time is now
 abbrev pub ready : Action → ℕ → Scene → Scene
-ready a now v = ticks (a.start - now) v
+ready a now v = after_ticks (a.start - now) v
 
 -- actions in order, the time counted from where play began: tick until the start, make the call; at the end, tick until nothing
 -- runs
@@ -85,7 +61,8 @@ play (a ∷ rest) now v =
 
 -- the same as a relation of the actions, the time, the site before, the answer and the site after
 pub data Played : List Action → ℕ → Scene → Option Told → Scene → Type 0 where
-  ended : {now n : ℕ} {v : Scene} → Quiet (ticks n v) → ((k : ℕ) → k < n → Quiet (ticks k v) → ⊥) → Played [] now v None (ticks n v)
+  ended : {now n : ℕ} {v : Scene} → Quiet (after_ticks n v).columns → ((k : ℕ) → k < n → Quiet (after_ticks k v).columns → ⊥)
+      → Played [] now v None (after_ticks n v)
   stopped : {a : Action} {rest : List Action} {now : ℕ} {v : Scene} {k : Call} {t : Told}
       → call_of a ≡ Some k → refusal (ready a now v) k ≡ Some t → Played (a ∷ rest) now v (Some (on_line a.line t)) (ready a now v)
   granted : {a : Action} {rest : List Action} {now : ℕ} {v w : Scene} {k : Call} {answer : Option Told}
@@ -93,11 +70,6 @@ pub data Played : List Action → ℕ → Scene → Option Told → Scene → Ty
       → Played (a ∷ rest) now v answer w
   waited : {a : Action} {rest : List Action} {now : ℕ} {v w : Scene} {answer : Option Told}
       → call_of a ≡ None → Played rest a.start (ready a now v) answer w → Played (a ∷ rest) now v answer w
-
--- ticking until nothing runs ends: nothing runs then, and before the last tick something does
-pub record Settles (v : Scene) : Type 0 where
-  pub quiet : Quiet (settled v)
-  pub no_sooner : (n : ℕ) → n < longest v.columns 256 → Quiet (ticks n v) → ⊥
 
 -- a site as it opens: as many columns as the ground has, each free and at height 0, and nothing changing
 pub record Blank (v : Scene) : Type 0 where

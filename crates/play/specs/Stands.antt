@@ -1,5 +1,5 @@
 -- What comes of playing a plan that keeps the rules, on a site as it opens. Assumes nothing.
-use Rattle.std.specs.Prelude.{◌≡◌, ℕ, ◌<◌, ◌≤◌, List, length, Some, None, Decides}
+use Rattle.std.specs.Prelude.{◌≡◌, ℕ, ◌<◌, ◌≤◌, List, Some, None, Decides}
 use Rattle.terms.specs.Durations.{SiteSettings}
 use Rattle.terms.specs.Refusals.{told}
 use Rattle.terms.specs.declared.refusal.Rule.TheVariants.{NoWayHome, NotFresh}
@@ -9,7 +9,8 @@ use Rattle.gate.specs.Scene.{Scene, height_at, opened, state_at}
 use Rattle.plan.specs.Judged.{Timed}
 use Rattle.plan.specs.Plan.{Action, line}
 use Rattle.plan.specs.Rules.{Rules}
-use Rattle.play.specs.Play.{Blank, Fresh, Outcome, Played, Settles, is_fresh, play, play_on}
+use Rattle.gate.specs.Time.{Settles}
+use Rattle.play.specs.Play.{Blank, Fresh, Outcome, Played, is_fresh, play, play_on}
 use Rattle.play.specs.Shown.{Described}
 use Rattle.play.specs.Strands.{Strands, StrandsLowest}
 
@@ -38,9 +39,9 @@ pub record PlaysStand : Type 0 where
   pub on_other : (actions : List Action) (v : Scene) → (Fresh v → ⊥)
       → play_on actions v ≡ record { answer = Some (told NotFresh 0 0); site = v }
   -- ticking until nothing runs ends
-  pub settles : (v : Scene) → length v.columns ≤ 256 → Settles v
+  pub settles : (v : Scene) → Settles v
   -- play is what its relation says, of every list of actions
-  pub played : (actions : List Action) (now : ℕ) (v : Scene) → length v.columns ≤ 256
+  pub played : (actions : List Action) (now : ℕ) (v : Scene)
       → Played actions now v (play actions now v).answer (play actions now v).site
   -- and this comes of a plan that keeps the rules
   pub comes : (v : Scene) (plan : List Action) (targets : ℕ → ℕ) → Lawful v.meaning → Usable v.settings → Rules v.meaning v.settings plan targets

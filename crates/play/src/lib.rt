@@ -4,5 +4,4 @@
 mod player;
 mod spent;
 
-pub use player::{settle, wait};
 pub use spent::play;

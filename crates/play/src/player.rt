@@ -1,42 +1,14 @@
 // Plays a list of actions on a site: each call at its time, until one is refused.
-ghost use Rattle.std.specs.Prelude.{◌≡◌, ◌-◌, nat_lt};
+ghost use Rattle.std.specs.Prelude.{◌≡◌};
 ghost use Rattle.terms.specs.Refusals.{refusal_in, told_of};
 ghost use Rattle.gate.specs.View.{scene_of};
 ghost use Rattle.plan.specs.View.{action_of, plan_of};
-ghost use Rattle.play.specs.Play.{call_of, called, is_fresh, longest, on_line, play, play_on, refusal_of, settled, ticks};
+ghost use Rattle.play.specs.Play.{call_of, called, is_fresh, on_line, play, play_on, refusal_of};
 
 use gate::Site;
 use ground::Ground;
 use plan::Action;
 use terms::{Refusal, Rule, Work};
-
-// Whether an action runs at some column; no ground has more than 256. Over all that there may be, since `settled` is stated so.
-fn is_running<G: Ground>(site: &Site<G>) -> bool
-    ensures { result ≡ nat_lt 0 (longest (scene_of site.now).columns 256) }
-{
-    (0..256).any(|column| site.look(column).state.runs())
-}
-
-// Ticks from one time until another. Where nothing runs after a tick, those that are left would alter nothing, and are not made.
-pub fn wait<G: Ground>(site: &mut Site<G>, time: u32, until: u32)
-    ensures { scene_of site.new ≡ ticks (until - time) (scene_of site.old) }
-{
-    for _tick in time..until {
-        site.tick();
-        if !is_running(site) {
-            return;
-        }
-    }
-}
-
-// Ticks until nothing runs.
-pub fn settle<G: Ground>(site: &mut Site<G>)
-    ensures { scene_of site.new ≡ settled (scene_of site.old) }
-{
-    while is_running(site) {
-        site.tick();
-    }
-}
 
 // Makes the call that an action names; a wait names none.
 fn call<G: Ground>(site: &mut Site<G>, action: &Action) -> Result<(), Refusal>
@@ -76,11 +48,11 @@ fn play_all<G: Ground>(site: &mut Site<G>, actions: &[Action]) -> Result<(), Ref
     let mut time = 0;
     for action in actions {
         let start = action.span.start();
-        wait(site, time, start);
+        site.wait(start.saturating_sub(time));
         time = start;
         call(site, action).map_err(|refusal| on_line(refusal, action.line))?;
     }
-    settle(site);
+    site.settle();
     Ok(())
 }
 

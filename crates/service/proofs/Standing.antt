@@ -4,8 +4,9 @@ use Rattle.terms.specs.Durations.{SiteSettings}
 use Rattle.ground.specs.Meaning.{Lawful, Meaning}
 use Rattle.gate.specs.declared.call.Call.{Call}
 use Rattle.gate.specs.Scene.{Scene, blocks_carried, blocks_standing, opened, relief}
-use Rattle.undertaking.specs.Runs.{after_ticks, brought_by, building_of, out_by, replies, run, tally, toil_of}
-use Rattle.undertaking.specs.Obeying.{Empty, Holds, Obeyed, Quiet, Toll}
+use Rattle.undertaking.specs.Runs.{brought_by, building_of, out_by, replies, run, tally, toil_of}
+use Rattle.undertaking.specs.Obeying.{Empty, Holds, Obeyed, Toll}
+use Rattle.gate.specs.Time.{Quiet, after_ticks}
 use Rattle.undertaking.specs.Lasting.{Lasts}
 use Rattle.undertaking.specs.Undertaking.{Bounds, Reads, Undertaking}
 use Rattle.undertaking.proofs.Plain.{Proper, opening}

@@ -8,14 +8,15 @@ use Rattle.gate.specs.Scene.{Scene}
 use Rattle.gate.specs.Gate.{grant, refusal, settle, step}
 use Rattle.undertaking.specs.Runs.{run}
 use Rattle.plan.specs.Plan.{Action}
-use Rattle.play.specs.Play.{Outcome, call_of, called, is_fresh, longest, play, ready, refusal_of, ticks, unless}
+use Rattle.play.specs.Play.{Outcome, call_of, called, is_fresh, play, ready, refusal_of, unless}
+use Rattle.gate.specs.Time.{after_ticks, longest}
 use Rattle.service.specs.Deeds.{Deed, plan_calls, done, if_made, runs, calls_by, calls_by_all, unless_refused}
 
 pub run_append : (ks ls : List Call) (v : Scene) → run v (ks ++ ls) ≡ run (run v ks) ls
 run_append [] ls v = refl
 run_append (k ∷ ks) ls v = run_append ks ls (step v k)
 
-pub run_ticks : (n : ℕ) (v : Scene) → run v (replicate n Tick) ≡ ticks n v
+pub run_ticks : (n : ℕ) (v : Scene) → run v (replicate n Tick) ≡ after_ticks n v
 run_ticks zero v = refl
 run_ticks (suc n) v = run_ticks n (step v Tick)
 
@@ -31,7 +32,7 @@ module _ (line : ℕ) (u : Scene) (on : Scene → Outcome) (more : Scene → Lis
   from_start (Some k) = decided k (refusal u k) refl
 
 pub calls_play : (actions : List Action) (now : ℕ) (v : Scene) → run v (plan_calls actions now v) ≡ (play actions now v).site
-calls_play [] now v = run_ticks (longest v.columns 256) v
+calls_play [] now v = run_ticks (longest v.columns) v
 calls_play (a ∷ rest) now v =
     let u = ready a now v in
     let later = if_made (call_of a) ++ unless_refused (refusal_of u (call_of a)) (plan_calls rest a.start (called u (call_of a))) in

@@ -9,7 +9,8 @@ use Rattle.gate.specs.Scene.{Scene}
 use Rattle.gate.specs.Gate.{step}
 use Rattle.undertaking.specs.Runs.{Reply, Relates, by_refusal, reply}
 use Rattle.plan.specs.Plan.{Action}
-use Rattle.play.specs.Play.{Fresh, Played, call_of, called, is_fresh, longest, play_on, ready, refusal_of}
+use Rattle.play.specs.Play.{Fresh, Played, call_of, called, is_fresh, play_on, ready, refusal_of}
+use Rattle.gate.specs.Time.{longest}
 
 -- a call of the gate, or the playing of any actions: accepted for this site, for another, or for none
 pub data Deed : Type 0 where
@@ -58,7 +59,7 @@ unless_refused (Some t) ks = []
 -- the calls that playing makes: ticks until the start of each action, its call, none after one that is refused; at the end, ticks
 -- until nothing runs
 abbrev pub plan_calls : List Action → ℕ → Scene → List Call
-plan_calls [] now v = replicate (longest v.columns 256) Tick
+plan_calls [] now v = replicate (longest v.columns) Tick
 plan_calls (a ∷ rest) now v =
     replicate (a.start - now) Tick
     ++ (if_made (call_of a)

@@ -59,26 +59,36 @@ fn lone_byte(field: &[u8]) -> Option<u8>
     }
 }
 
-// The letter in a field.
+// The letter in a field. Form: by char cases, as the formats name letters and marks.
 pub(crate) fn letter_in(field: &[u8]) -> Option<Letter>
     ensures { result ≡ letter_in field.now }
 {
-    match lone_byte(field)? {
-        b'M' => Some(Letter::M),
-        b'P' => Some(Letter::P),
-        b'D' => Some(Letter::D),
+    match char::from(lone_byte(field)?) {
+        'M' => Some(Letter::M),
+        'P' => Some(Letter::P),
+        'D' => Some(Letter::D),
         _ => None,
     }
 }
 
-// The column or the height in a field: a number, or the mark that stands for outside.
-pub(crate) fn place_in(field: &[u8], mark: u8) -> Option<Place>
-    ensures { result ≡ place_in mark field.now }
+// The column or the height that an action starts from: a number, or S for outside.
+pub(crate) fn from_place(field: &[u8]) -> Option<Place>
+    ensures { result ≡ place_in 83 field.now }
 {
-    if lone_byte(field) == Some(mark) {
-        return Some(Place::Outside);
+    match lone_byte(field).map(char::from) {
+        Some('S') => Some(Place::Outside),
+        _ => number(field).map(Place::At),
     }
-    number(field).map(Place::At)
+}
+
+// The column or the height that an action leads to: a number, or E for outside.
+pub(crate) fn to_place(field: &[u8]) -> Option<Place>
+    ensures { result ≡ place_in 69 field.now }
+{
+    match lone_byte(field).map(char::from) {
+        Some('E') => Some(Place::Outside),
+        _ => number(field).map(Place::At),
+    }
 }
 
 // Whether a robot carries a block: 1, or 0 for none.

@@ -24,12 +24,12 @@ pub(crate) enum Line<'a> {
 pub(crate) fn line_of(bytes: &[u8; LINE_LENGTH], number: u16) -> Option<Line<'_>>
     ensures { MatchOption result (word_in bytes.now ≡ None) (λ l. (word_in bytes.now ≡ Some (word_of l)) × (fields_of l ≡ fields bytes.now) × (place_of l ≡ number)) }
 {
-    let (word, rest) = bytes.split_first_chunk::<4>()?;
-    let [fields @ .., b'\n'] = rest else {
+    // Form: one pattern shows the layout: a word of four bytes, the fields, and the newline.
+    let [a, b, c, d, fields @ .., b'\n'] = bytes.as_slice() else {
         return None;
     };
     let fields = fields.as_array()?;
-    match word {
+    match &[*a, *b, *c, *d] {
         b"GOAL" => Some(Line::Goal { number, fields }),
         b"ACT " => Some(Line::Act { number, fields }),
         b"NOTE" => Some(Line::Note { number, fields }),

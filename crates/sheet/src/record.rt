@@ -3,13 +3,8 @@ ghost use Rattle.std.specs.Prelude.{◌≡◌};
 ghost use Rattle.sheet.specs.Records.{goal_in, act_in, end_in};
 ghost use Rattle.sheet.specs.Kinds.{answer_of};
 
-use crate::field::{carry_in, is_blank, letter_in, number, place_in};
+use crate::field::{carry_in, from_place, is_blank, letter_in, number, to_place};
 use crate::unread::Unread;
-
-// The marks for coming from outside and for going outside.
-const START: u8 = b'S';
-
-const EXIT: u8 = b'E';
 
 // The letter of an action: move, pick up or deliver.
 #[derive(Clone, Copy, PartialEq, Eq, Debug)]
@@ -56,11 +51,16 @@ pub enum Record {
 }
 
 // What the fields of a GOAL line show, or the first thing that cannot be read.
+// Form, here and below: a field that cannot be read ends the line where it stands, with its number.
 pub(crate) fn goal_in(fields: &[u8; 30]) -> Result<Record, Unread>
     ensures { answer_of result ≡ goal_in fields.now }
 {
-    let column = number(&fields[0..6]).ok_or(Unread::Field(1))?;
-    let height = number(&fields[6..12]).ok_or(Unread::Field(2))?;
+    let Some(column) = number(&fields[0..6]) else {
+        return Err(Unread::Field(1));
+    };
+    let Some(height) = number(&fields[6..12]) else {
+        return Err(Unread::Field(2));
+    };
     if !is_blank(&fields[12..30]) {
         return Err(Unread::Rest);
     }
@@ -71,7 +71,9 @@ pub(crate) fn goal_in(fields: &[u8; 30]) -> Result<Record, Unread>
 pub(crate) fn end_in(fields: &[u8; 30]) -> Result<Record, Unread>
     ensures { answer_of result ≡ end_in fields.now }
 {
-    let count = number(&fields[0..6]).ok_or(Unread::Field(1))?;
+    let Some(count) = number(&fields[0..6]) else {
+        return Err(Unread::Field(1));
+    };
     if !is_blank(&fields[6..30]) {
         return Err(Unread::Rest);
     }
@@ -82,25 +84,43 @@ pub(crate) fn end_in(fields: &[u8; 30]) -> Result<Record, Unread>
 pub(crate) fn act_in(line: u16, fields: &[u8; 30]) -> Result<Record, Unread>
     ensures { answer_of result ≡ act_in line fields.now }
 {
-    let start = number(&fields[0..6]).ok_or(Unread::Field(1))?;
-    let end = number(&fields[6..12]).ok_or(Unread::Field(2))?;
-    let from = Side {
-        column: place_in(&fields[12..16], START).ok_or(Unread::Field(3))?,
-        height: place_in(&fields[16..19], START).ok_or(Unread::Field(4))?,
+    let Some(start) = number(&fields[0..6]) else {
+        return Err(Unread::Field(1));
     };
-    let carry = carry_in(&fields[19..21]).ok_or(Unread::Field(5))?;
-    let letter = letter_in(&fields[21..23]).ok_or(Unread::Field(6))?;
-    let to = Side {
-        column: place_in(&fields[23..27], EXIT).ok_or(Unread::Field(7))?,
-        height: place_in(&fields[27..30], EXIT).ok_or(Unread::Field(8))?,
+    let Some(end) = number(&fields[6..12]) else {
+        return Err(Unread::Field(2));
+    };
+    let Some(from_column) = from_place(&fields[12..16]) else {
+        return Err(Unread::Field(3));
+    };
+    let Some(from_height) = from_place(&fields[16..19]) else {
+        return Err(Unread::Field(4));
+    };
+    let Some(carry) = carry_in(&fields[19..21]) else {
+        return Err(Unread::Field(5));
+    };
+    let Some(letter) = letter_in(&fields[21..23]) else {
+        return Err(Unread::Field(6));
+    };
+    let Some(to_column) = to_place(&fields[23..27]) else {
+        return Err(Unread::Field(7));
+    };
+    let Some(to_height) = to_place(&fields[27..30]) else {
+        return Err(Unread::Field(8));
     };
     Ok(Record::Act(ActLine {
         line,
         start,
         end,
-        from,
+        from: Side {
+            column: from_column,
+            height: from_height,
+        },
         carry,
         letter,
-        to,
+        to: Side {
+            column: to_column,
+            height: to_height,
+        },
     }))
 }

@@ -20,7 +20,8 @@ use Rattle.terms.specs.Refusals.{told}
 use Rattle.terms.specs.declared.refusal.Rule.TheVariants.{ActionRuns, NoRobot}
 use Rattle.ways.proofs.Nearest.{Nearest, found}
 use Rattle.undertaking.proofs.Plain.{Proper, relief, tests, answer, step, Obeyed, toll, robot_steps, recalled}
-use Rattle.undertaking.specs.Obeying.{Empty, Quiet, call_of}
+use Rattle.undertaking.specs.Obeying.{Empty, call_of}
+use Rattle.gate.specs.Time.{Quiet}
 use Rattle.ways.proofs.Exactness.{ways_exact}
 use Rattle.ways.proofs.Tests.{near_decides}
 use Rattle.ways.specs.Table.{near, steps}

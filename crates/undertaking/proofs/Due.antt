@@ -15,7 +15,7 @@ use Rattle.gate.specs.declared.column.State.TheVariants.{Free, Standing, Busy}
 use Rattle.ground.specs.Meaning.{Meaning, Lawful}
 use Rattle.terms.specs.Durations.{SiteSettings}
 use Rattle.undertaking.proofs.Plain.{Proper, relief, answer, toll, robot_steps}
-use Rattle.undertaking.specs.Obeying.{Quiet}
+use Rattle.gate.specs.Time.{Quiet}
 use Rattle.ways.specs.Table.{steps}
 use Rattle.ways.specs.Way.{Relief}
 use Rattle.undertaking.proofs.Seen.{Put, put_all, begun_all, put_sum, begin_sum}

@@ -10,7 +10,7 @@ use Rattle.gate.specs.declared.column.Column.{Column}
 use Rattle.gate.specs.declared.column.State.{State}
 use Rattle.gate.specs.declared.column.State.TheVariants.{Free, Standing, Busy}
 use Rattle.undertaking.proofs.Plain.{after_ticks, Rested}
-use Rattle.undertaking.specs.Obeying.{Quiet}
+use Rattle.gate.specs.Time.{Quiet}
 use Rattle.gate.proofs.Ticked.{at_tick}
 use Rattle.undertaking.proofs.Asked.{none_below}
 

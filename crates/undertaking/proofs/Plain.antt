@@ -16,7 +16,8 @@ use Rattle.gate.specs.Scene.{Columns, height_at, state_at, tick_all, lying, robo
 use Rattle.gate.specs.Gate.{Test, granted, settle}
 use Rattle.gate.specs.Gate.{tests as gate_tests}
 use Rattle.gate.specs.Recall.{robot_steps as gate_steps, toll as gate_toll, recalled as gate_recalled}
-use Rattle.undertaking.specs.Obeying.{Robot, Quiet, call_of}
+use Rattle.undertaking.specs.Obeying.{Robot, call_of}
+use Rattle.gate.specs.Time.{Quiet}
 
 -- settings as they are made
 pub record Proper (s : SiteSettings) : Type 0 where

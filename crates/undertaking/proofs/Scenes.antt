@@ -21,7 +21,8 @@ use Rattle.gate.specs.Scene.{relief as relief_of, tried as tried_of}
 use Rattle.gate.specs.Gate.{refusal, granted, granted_marks, grant, settle}
 use Rattle.gate.specs.Gate.{tests as gate_tests, step as scene_step}
 use Rattle.gate.specs.Recall.{recall, recalled as gate_recalled}
-use Rattle.undertaking.specs.Runs.{run as run_of, after_ticks as after_ticks_of, tally as tally_of}
+use Rattle.undertaking.specs.Runs.{run as run_of, tally as tally_of}
+use Rattle.gate.specs.Time.{after_ticks as after_ticks_of}
 use Rattle.undertaking.specs.Obeying.{call_of, Rested as RestedOf, Obeyed as ObeyedOf}
 use Rattle.undertaking.proofs.Plain.{Proper, opening, relief, tried, answer, step, run, tally, after_ticks, recalled, Rested, Obeyed}
 use Rattle.undertaking.proofs.Seen.{at_opening, put_all, begun_all}

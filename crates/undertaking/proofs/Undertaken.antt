@@ -13,8 +13,9 @@ use Rattle.gate.specs.Recall.{recall, Homeward}
 use Rattle.gate.proofs.Deciding.{performed}
 use Rattle.gate.proofs.Recalling.{recall_rightly}
 use Rattle.undertaking.specs.Runs.{reply, replies, Relates, Does, brought_by as brought_of, out_by as scene_out, toil_of as toiled, building_of as built_by}
-use Rattle.undertaking.specs.Runs.{run as run_of, after_ticks as after_ticks_of, tally as tally_of}
-use Rattle.undertaking.specs.Obeying.{Empty, Quiet, Holds, Toll, Obeyed as ObeyedOf}
+use Rattle.undertaking.specs.Runs.{run as run_of, tally as tally_of}
+use Rattle.undertaking.specs.Obeying.{Empty, Holds, Toll, Obeyed as ObeyedOf}
+use Rattle.gate.specs.Time.{Quiet, after_ticks as after_ticks_of}
 use Rattle.undertaking.specs.Lasting.{Lasts}
 use Rattle.undertaking.specs.Undertaking.{Reads, Bounds, Undertaking}
 use Rattle.undertaking.proofs.Plain.{Proper, opening, relief, run, tally, toll, after_ticks, brought_by, out_by, toil_of, building_of}

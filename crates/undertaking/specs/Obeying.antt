@@ -11,10 +11,11 @@ use Rattle.gate.specs.declared.column.State.TheVariants.{Busy}
 use Rattle.gate.specs.declared.order.Next.{Next}
 use Rattle.gate.specs.declared.order.Next.TheVariants.{Leaves, Moves}
 use Rattle.gate.specs.declared.order.Order.{Order}
-use Rattle.gate.specs.Column.{other, robot, runs}
+use Rattle.gate.specs.Column.{other, robot}
 use Rattle.gate.specs.Scene.{Columns, Scene, state_at, sum_below}
 use Rattle.gate.specs.Gate.{refusal, step}
 use Rattle.gate.specs.Recall.{recall}
+use Rattle.gate.specs.Time.{Quiet}
 
 -- a robot is at column c
 abbrev pub Robot : Columns → ℕ → Type 0
@@ -22,10 +23,6 @@ Robot xs c = robot (state_at xs c) ≡ true
 
 abbrev pub Empty : Columns → Type 0
 Empty xs = (c : ℕ) → robot (state_at xs c) ≡ false
-
--- nothing runs
-abbrev pub Quiet : Columns → Type 0
-Quiet xs = (c : ℕ) → runs (state_at xs c) ≡ false
 
 -- the robot at r holds its own column and, while an action runs, the action's other column
 pub data Holds (xs : Columns) (r : ℕ) : ℕ → Type 0 where

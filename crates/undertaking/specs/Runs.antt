@@ -1,5 +1,5 @@
 -- Lists of calls: the site after them, their answers, and what is counted over them. Assumes nothing.
-use Rattle.std.specs.Prelude.{◌≡◌, ℕ, zero, suc, ◌+◌, List, [], ◌∷◌, Some, None, Ok, Err, Option, Result}
+use Rattle.std.specs.Prelude.{◌≡◌, ℕ, suc, ◌+◌, List, [], ◌∷◌, Some, None, Ok, Err, Option, Result}
 use Rattle.terms.specs.Refusals.{Told, told_of}
 use Rattle.terms.specs.declared.refusal.Refusal.{Refusal}
 use Rattle.gate.specs.declared.call.Call.{Call}
@@ -14,10 +14,6 @@ use Rattle.gate.specs.Words.{Performed}
 abbrev pub run : Scene → List Call → Scene
 run v [] = v
 run v (k ∷ ks) = run (step v k) ks
-
-abbrev pub after_ticks : ℕ → Scene → Scene
-after_ticks zero v = v
-after_ticks (suc n) v = after_ticks n (step v Tick)
 
 -- what a call answers: it is granted, refused, or names the next action
 pub data Reply : Type 0 where

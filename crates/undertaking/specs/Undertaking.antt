@@ -8,8 +8,9 @@ use Rattle.gate.specs.declared.call.Call.{Call}
 use Rattle.gate.specs.declared.column.Part.TheVariants.{Laying, Lifting}
 use Rattle.gate.specs.declared.column.State.TheVariants.{Free, Busy}
 use Rattle.gate.specs.Scene.{Columns, Scene, height_at, state_at, relief, robots, blocks_standing, blocks_carried, opened}
-use Rattle.undertaking.specs.Runs.{Reply, run, replies, Does, after_ticks, tally, brought_by, out_by, toil_of, building_of}
-use Rattle.undertaking.specs.Obeying.{Robot, Empty, Quiet, Holds, Toll, Obeyed}
+use Rattle.undertaking.specs.Runs.{Reply, run, replies, Does, tally, brought_by, out_by, toil_of, building_of}
+use Rattle.undertaking.specs.Obeying.{Robot, Empty, Holds, Toll, Obeyed}
+use Rattle.gate.specs.Time.{Quiet, after_ticks}
 use Rattle.undertaking.specs.Lasting.{Lasts}
 
 -- a running lay or lift has column c as its to column

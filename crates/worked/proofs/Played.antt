@@ -12,7 +12,8 @@ use Rattle.gate.specs.Column.{column, fresh}
 use Rattle.gate.specs.Scene.{Columns, Scene, state_at}
 use Rattle.sheet.specs.Reading.{reading_refusal}
 use Rattle.judge.specs.Judging.{end_tests, judge_tests, judging_refusal}
-use Rattle.play.specs.Play.{Outcome, left, longest, settled, ticks}
+use Rattle.play.specs.Play.{Outcome}
+use Rattle.gate.specs.Time.{after_ticks, left, longest, settled}
 use Rattle.draw.specs.Rows.{text}
 use Rattle.job.specs.Jobs.{job_refusal}
 use Rattle.job.specs.Replies.{answered, heights, outcome, plan_in, played_reply, reply}
