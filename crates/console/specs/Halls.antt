@@ -9,10 +9,8 @@ use Rattle.gate.specs.Gate.{step}
 use Rattle.gate.specs.Recall.{recall}
 use Rattle.undertaking.specs.Runs.{Reply, by_refusal, reply}
 use Rattle.undertaking.specs.Obeying.{call_of}
-use Rattle.sheet.specs.View.{records_in}
-use Rattle.plan.specs.Plan.{Action}
-use Rattle.plan.specs.Rules.{written_plan}
 use Rattle.judge.specs.Judging.{judging_refusal}
+use Rattle.judge.specs.Verdict.{sheet_plan}
 use Rattle.play.specs.Play.{play_on}
 use Rattle.gate.specs.Time.{after_ticks, longest, settled}
 use Rattle.service.specs.Deeds.{Deed}
@@ -67,10 +65,6 @@ clearing v = resting v ++ Recall ∷ homeward (left (recall (settled v))) (settl
 
 abbrev pub cleared : Scene → Scene
 cleared v = home (left (recall (settled v))) (settled v)
-
--- the plan of a sheet
-abbrev pub sheet_plan : List ℕ → List Action
-sheet_plan sheet = written_plan (records_in sheet).acts
 
 -- why the sheet of a site is refused
 abbrev pub sheet_refusal : Scene → List ℕ → Option Told

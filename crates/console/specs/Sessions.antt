@@ -18,7 +18,8 @@ use Rattle.console.specs.declared.usage.Usage.{Usage}
 use Rattle.console.specs.declared.usage.Usage.TheVariants.{Open, FewerSheets}
 use Rattle.console.specs.Commands.{command_in}
 use Rattle.console.specs.Drawing.{counts_text, drawing}
-use Rattle.console.specs.Halls.{Hall, after_line, cleared_text, sheet_plan, sheet_refusal}
+use Rattle.console.specs.Halls.{Hall, after_line, cleared_text, sheet_refusal}
+use Rattle.judge.specs.Verdict.{sheet_plan}
 use Rattle.console.specs.Lines.{Entry, entries_in}
 use Rattle.console.specs.Openings.{Opening, opened_ground, opened_settings, opened_width, opening_in, opening_refusal}
 use Rattle.console.specs.Printed.{open_text}

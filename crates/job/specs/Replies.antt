@@ -1,15 +1,14 @@
 -- The whole answer of the program, from bytes to bytes. Assumes nothing.
-use Rattle.std.specs.Prelude.{ℕ, max, List, [], ◌∷◌, ◌++◌, map, Some, None, Ok, Err, codes, sum_by, count_by, Option, Result}
+use Rattle.std.specs.Prelude.{ℕ, List, [], ◌∷◌, ◌++◌, map, Some, None, Ok, Err, codes, Option, Result}
 use Rattle.std.specs.List.{range_with_len}
 use Rattle.terms.specs.Ranges.{settings_from}
 use Rattle.terms.specs.Refusals.{Told}
 use Rattle.ground.specs.Meaning.{Meaning}
 use Rattle.ground.specs.Squared.{squared}
 use Rattle.gate.specs.Scene.{Scene, height_at, opened}
-use Rattle.sheet.specs.View.{records_in}
-use Rattle.plan.specs.Plan.{Action, makespan, runs}
-use Rattle.plan.specs.Rules.{written_plan}
-use Rattle.judge.specs.Figures.{cost}
+use Rattle.plan.specs.Plan.{Action, makespan}
+use Rattle.judge.specs.Figures.{costs_of, most_at_once}
+use Rattle.judge.specs.Verdict.{sheet_plan}
 use Rattle.play.specs.Play.{Outcome, play_on}
 use Rattle.draw.specs.Rows.{text}
 use Rattle.job.specs.declared.order.Order.{Order}
@@ -24,21 +23,13 @@ row word a b c = word ++ cells a ++ cells b ++ cells c ++ 10 ∷ []
 abbrev pub told_row : List ℕ → Told → List ℕ
 told_row word t = row word t.number t.line t.detail
 
-abbrev pub largest : List ℕ → ℕ
-largest [] = 0
-largest (n ∷ ns) = max n (largest ns)
-
--- the most spans that share a timestep: some span starts at such a time
-abbrev pub most_at_once : List Action → ℕ
-most_at_once plan = largest (map (λ a. count_by (runs a.start) plan) plan)
-
 -- what is printed of an accepted plan: makespan, sum-of-costs and most robots at once
 abbrev pub ok_row : List Action → List ℕ
-ok_row plan = row (codes "OK  ") (makespan plan) (sum_by cost plan) (most_at_once plan)
+ok_row plan = row (codes "OK  ") (makespan plan) (costs_of plan) (most_at_once plan)
 
 -- the plan of a job's sheet
 abbrev pub plan_in : List ℕ → List Action
-plan_in input = written_plan (records_in (sheet_in input)).acts
+plan_in input = sheet_plan (sheet_in input)
 
 -- the site of a job as it opens
 abbrev pub order_site : Result Order ℕ → Scene

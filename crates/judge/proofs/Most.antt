@@ -7,7 +7,7 @@ use Rattle.plan.specs.Plan.{Action, line, no_action, runs}
 use Rattle.plan.proofs.Busiest.{busiest}
 use Rattle.plan.proofs.Counts.{count_by_cons, count_le, unit}
 use Rattle.plan.proofs.Searches.{decides_runs}
-use Rattle.judge.specs.Finding.{beside, largest, most_at_once}
+use Rattle.judge.specs.Figures.{beside, largest, most_at_once}
 use Rattle.judge.proofs.Searches.{largest_at}
 
 module _ (plan : List Action) where

@@ -2,7 +2,7 @@
 use Rattle.std.proofs.Common.{◌≡◌, ℕ, List, length, is_ok, Some, None, Ok, Err, Decides, Result, sym, refl, ap, ◌∙◌, subst}
 use Rattle.std.proofs.lemmas.Bool.{true≢false}
 use Rattle.terms.specs.Durations.{SiteSettings}
-use Rattle.terms.specs.Refusals.{Answers, Settles, Told, first_of, from_on, or_else, refusal_in, told_of}
+use Rattle.terms.specs.Refusals.{Answers, Settles, Silent, Told, first_of, from_on, or_else, refusal_in, told_of}
 use Rattle.terms.specs.declared.refusal.Refusal.{Refusal}
 use Rattle.terms.proofs.First.{answers_settle, first_append}
 use Rattle.ground.specs.Meaning.{Meaning}
@@ -47,17 +47,22 @@ module _ (m : Meaning) (s : SiteSettings) (sheet : List ℕ) where
     at_end e = staged ∙ on _ _ e
 
   module _ (timed : Timed s) where
-    accepted_keeps : judging_refusal m s sheet ≡ None → Keeps m s sheet
+    -- a sheet keeps the rules exactly where no reason of judging holds
+    pub silent_keeps : Silent (judging_reasons m s sheet) → Keeps m s sheet
     unfolding judging_reasons
-    accepted_keeps e =
-        let p = silent_parts (reading_reasons m s sheet) (sheet_reasons m s (records_in sheet)) (subst (Settles (judging_reasons m s sheet)) e judging_settles) in
+    silent_keeps none =
+        let p = silent_parts (reading_reasons m s sheet) (sheet_reasons m s (records_in sheet)) none in
         record { reads = p.0; rules = silent_rules m s (records_in sheet) timed p.1 }
 
-    refused_breaks : (t : Told) → judging_refusal m s sheet ≡ Some t → Keeps m s sheet → ⊥
+    pub keeps_silent : Keeps m s sheet → Silent (judging_reasons m s sheet)
     unfolding judging_reasons
-    refused_breaks t e k =
-        speaks_not (judging_reasons m s sheet) t (subst (Settles (judging_reasons m s sheet)) e judging_settles)
-        (silent_both (reading_reasons m s sheet) (sheet_reasons m s (records_in sheet)) k.reads (rules_silent m s (records_in sheet) timed k.rules))
+    keeps_silent k = silent_both (reading_reasons m s sheet) (sheet_reasons m s (records_in sheet)) k.reads (rules_silent m s (records_in sheet) timed k.rules)
+
+    accepted_keeps : judging_refusal m s sheet ≡ None → Keeps m s sheet
+    accepted_keeps e = silent_keeps (subst (Settles (judging_reasons m s sheet)) e judging_settles)
+
+    refused_breaks : (t : Told) → judging_refusal m s sheet ≡ Some t → Keeps m s sheet → ⊥
+    refused_breaks t e k = speaks_not (judging_reasons m s sheet) t (subst (Settles (judging_reasons m s sheet)) e judging_settles) (keeps_silent k)
 
     -- accepted exactly where the sheet reads and keeps the rules
     pub decides_keeps : {T : Type 0} (P : T → Type 0) (r : Result T Refusal) → Answers (judging_refusal m s sheet) P r → Decides (is_ok r) (Keeps m s sheet)

@@ -53,16 +53,3 @@ pub record Tally (p : ℕ → ℕ → Action → Bool) (plan : List Action) (t n
 -- one more at the column c
 abbrev pub raised : List ℕ → ℕ → List ℕ
 raised counts c = slice_set counts c (slice_index_or counts c 0 + 1)
-
--- the largest of a number of each action, 0 for none
-abbrev pub largest : (Action → ℕ) → List Action → ℕ
-largest g [] = 0
-largest g (a ∷ rest) = max (g a) (largest g rest)
-
--- how many actions of the plan run at the start of an action
-abbrev pub beside : List Action → Action → ℕ
-beside plan a = count_by (runs a.start) plan
-
--- the most at any start
-abbrev pub most_at_once : List Action → ℕ
-most_at_once plan = largest (beside plan) plan

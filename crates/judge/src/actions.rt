@@ -2,7 +2,8 @@
 ghost use Rattle.std.specs.Prelude.{◌≡◌, ℕ, ◌<◌, ◌≤◌, length, vec_len, vec_items, vec_capacity};
 ghost use Rattle.plan.specs.Plan.{delivers, line, picks};
 ghost use Rattle.plan.specs.View.{plan_of};
-ghost use Rattle.judge.specs.Finding.{Passed, Tally, most_at_once};
+ghost use Rattle.judge.specs.Finding.{Passed, Tally};
+ghost use Rattle.judge.specs.Figures.{most_at_once};
 ghost use Rattle.judge.specs.Judging.{latest_start};
 
 use plan::Action;

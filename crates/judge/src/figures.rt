@@ -1,8 +1,8 @@
 // What a plan comes to.
-ghost use Rattle.std.specs.Prelude.{◌≡◌, sum_by};
+ghost use Rattle.std.specs.Prelude.{◌≡◌};
 ghost use Rattle.plan.specs.Plan.{makespan};
 ghost use Rattle.plan.specs.View.{plan_of};
-ghost use Rattle.judge.specs.Figures.{cost};
+ghost use Rattle.judge.specs.Figures.{costs_of};
 
 use crate::actions::Actions;
 use plan::Action;
@@ -20,7 +20,7 @@ pub(crate) fn latest_end(actions: &[Action]) -> u32
 
 // The sum of the costs of all actions.
 pub(crate) fn costs(actions: &Actions) -> u64
-    ensures { result ≡ sum_by cost (plan_of actions.now.list.items) }
+    ensures { result ≡ costs_of (plan_of actions.now.list.items) }
 {
     actions
         .list

@@ -5,7 +5,7 @@ ghost use Rattle.terms.specs.View.{settings_of};
 ghost use Rattle.plan.specs.Rules.{written_plan, target_of};
 ghost use Rattle.plan.specs.View.{plan_of};
 ghost use Rattle.sheet.specs.View.{records_in};
-ghost use Rattle.judge.specs.Figures.{Figures};
+ghost use Rattle.judge.specs.Figures.{Computed, Figures};
 ghost use Rattle.judge.specs.Finding.{Settled};
 ghost use Rattle.judge.specs.Judging.{end_tests, judging_refusal, tests_at};
 ghost use Rattle.judge.specs.Reasons.{judging_reasons};
@@ -57,6 +57,7 @@ fn judge_end<G: Ground>(ground: &G, actions: &Actions, sheet: &Sheet) -> Result<
 // An accepted plan, with its figures.
 fn accept(actions: Actions, targets: Vec<Target>) -> Accepted
     ensures plan { (result.plan ≡ plan_of actions.list.items) × (result.targets ≡ targets.items) }
+    ensures computed { Computed result.plan result.makespan result.costs result.most }
     ensures figures { Figures result.plan result.makespan result.costs result.most }
 {
     let plan = actions.list.as_slice();

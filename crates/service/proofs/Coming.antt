@@ -16,7 +16,10 @@ use Rattle.plan.specs.Rules.{Rules}
 use Rattle.play.specs.Play.{Fresh, Outcome, play_on}
 use Rattle.play.specs.Stands.{Comes, Usable}
 use Rattle.play.proofs.Standing.{plays_stand}
+use Rattle.judge.specs.Verdict.{sheet_plan, sheet_targets}
+use Rattle.judge.proofs.Verdict.{keeps_silent, silent_keeps}
 use Rattle.service.specs.Deeds.{Deed, runs, calls_by_all}
+use Rattle.service.specs.Whole.{PlaysSheets}
 use Rattle.service.proofs.Unfolding.{runs_run}
 use Rattle.service.proofs.Freshness.{blank_so}
 
@@ -59,3 +62,10 @@ module _ (m : Meaning) (s : SiteSettings) (law : Lawful m) (ok : Proper s) where
 
   pub plays_after : (ds : List Deed) → PlaysWell (runs (opened m s) ds)
   plays_after ds = subst PlaysWell (sym (after ds)) (plays_well (columns_after ds) (kept_after ds))
+
+  pub sheets_after : (ds : List Deed) → PlaysSheets m s (runs (opened m s) ds)
+  sheets_after ds =
+      record {
+        unrefused = λ sheet. (keeps_silent m s sheet (timed s ok), silent_keeps m s sheet (timed s ok));
+        comes = λ fresh sheet k. plays_after ds fresh (sheet_plan sheet) (sheet_targets sheet) k.rules.rules;
+      }

@@ -17,7 +17,7 @@ use Rattle.service.specs.Deeds.{AllRelate, Deed, replies_to, runs, calls_by_all}
 use Rattle.service.specs.Whole.{Whole}
 use Rattle.service.proofs.Unfolding.{runs_run}
 use Rattle.service.proofs.Related.{all_relate}
-use Rattle.service.proofs.Coming.{plays_after}
+use Rattle.service.proofs.Coming.{plays_after, sheets_after}
 use Rattle.service.proofs.Lasting.{lasts_through}
 
 module _ (m : Meaning) (s : SiteSettings) (law : Lawful m) (ok : Proper s) (ds : List Deed) where
@@ -73,4 +73,5 @@ module _ (m : Meaning) (s : SiteSettings) (law : Lawful m) (ok : Proper s) (ds :
         apart = of_calls (λ v. (r q c : ℕ) → Holds v.columns r c → Holds v.columns q c → r ≡ q) under.apart;
         blocks = of_calls Balanced under.blocks;
         plays = λ before rest e. plays_after m s law ok before;
+        plays_sheets = λ before rest e. sheets_after m s law ok before;
       }

@@ -1,6 +1,7 @@
 -- What is undertaken of every site that was opened and only called, by any of the eight calls. Assumes nothing.
-use Rattle.std.specs.Prelude.{◌≡◌, ℕ, ◌+◌, ◌≤◌, List, ◌++◌}
+use Rattle.std.specs.Prelude.{◌≡◌, ℕ, ◌+◌, ◌≤◌, ◌↔◌, List, ◌++◌}
 use Rattle.terms.specs.Durations.{SiteSettings}
+use Rattle.terms.specs.Refusals.{Silent}
 use Rattle.ground.specs.Meaning.{Meaning}
 use Rattle.gate.specs.declared.call.Call.{Call}
 use Rattle.gate.specs.Scene.{Scene, blocks_carried, blocks_standing, opened, relief}
@@ -11,10 +12,19 @@ use Rattle.undertaking.specs.Lasting.{Lasts}
 use Rattle.undertaking.specs.Undertaking.{Bounds, Reads, Undertaking}
 use Rattle.plan.specs.Plan.{Action}
 use Rattle.plan.specs.Rules.{Rules}
+use Rattle.judge.specs.Reasons.{judging_reasons}
+use Rattle.judge.specs.Verdict.{Keeps, sheet_plan, sheet_targets}
 use Rattle.play.specs.Play.{Fresh, play_on}
 use Rattle.play.specs.Stands.{Comes}
 use Rattle.service.specs.Deeds.{AllRelate, Deed, calls_by_all, replies_to, runs}
 use Rattle.service.specs.Lasting.{LastsThrough}
+
+-- every sheet that the rules accept for this ground and these settings, played on the site v where it is fresh
+pub record PlaysSheets (m : Meaning) (s : SiteSettings) (v : Scene) : Type 0 where
+  -- it is accepted by the rules of the whole plan exactly where judging has no reason to refuse it
+  pub unrefused : (sheet : List ℕ) → Keeps m s sheet ↔ Silent (judging_reasons m s sheet)
+  -- its plan is stopped where it first strands a robot, and nowhere else, and otherwise ends with its targets
+  pub comes : Fresh v → (sheet : List ℕ) → Keeps m s sheet → Comes m s (sheet_plan sheet) (sheet_targets sheet) (play_on (sheet_plan sheet) v)
 
 -- of the deeds from the opening, their answers, and the site v after them
 pub record Whole (m : Meaning) (s : SiteSettings) (deeds : List Deed) (answers : List Reply) (v : Scene) : Type 0 where
@@ -45,3 +55,5 @@ pub record Whole (m : Meaning) (s : SiteSettings) (deeds : List Deed) (answers :
   -- a robot, and nowhere else
   pub plays : (before after : List Deed) → before ++ after ≡ deeds → Fresh (runs (opened m s) before)
       → (plan : List Action) (targets : ℕ → ℕ) → Rules m s plan targets → Comes m s plan targets (play_on plan (runs (opened m s) before))
+  -- and so it is with the plan of every accepted sheet
+  pub plays_sheets : (before after : List Deed) → before ++ after ≡ deeds → PlaysSheets m s (runs (opened m s) before)

@@ -1,5 +1,5 @@
 -- Worked examples: what the definitions give, beside what is expected. Assumes nothing.
-use Rattle.std.specs.Prelude.{◌≡◌, ℕ, Bool, true, false, ◌&&◌, List, [], ◌∷◌, ◌++◌, replicate, Some, None, Ok, Err, codes, Option, Result, ◌==◌, slice_set}
+use Rattle.std.specs.Prelude.{ℕ, Bool, true, false, ◌&&◌, List, [], ◌∷◌, ◌++◌, replicate, Some, None, Ok, Err, codes, Option, Result, ◌==◌, slice_set}
 use Rattle.terms.specs.Ranges.{settings_from}
 use Rattle.terms.specs.Refusals.{Told}
 use Rattle.ground.specs.Squared.{square_refusal, squared}
@@ -14,8 +14,7 @@ use Rattle.gate.specs.Gate.{refusal}
 use Rattle.gate.specs.Recall.{recall}
 use Rattle.gate.specs.Scene.{Scene}
 use Rattle.undertaking.specs.Runs.{run}
-use Rattle.job.specs.Jobs.{job_refusal}
-use Rattle.job.specs.Replies.{answered, ok_row, plan_in, reply}
+use Rattle.job.specs.Replies.{answered}
 
 -- what is given, and what is expected, both as numbers
 pub record Example : Type 0 where
@@ -84,10 +83,6 @@ job_line = line (codes "JOB      3     3     2     1     0")
 abbrev pub job_line_set_1 : List ℕ
 job_line_set_1 = line (codes "JOB      3     3     2     1     1")
 
--- what is printed of a job before its plan is played: the figures, or the first fault
-abbrev pub judged : List ℕ → List ℕ
-judged input = reply (job_refusal input) (ok_row (plan_in input))
-
 -- 3 by 5 columns: column 6 at height 1, 7 at 2, empty robots standing at 5 and 7
 abbrev pub hill : Scene
 hill =
@@ -102,13 +97,14 @@ hill =
 abbrev pub after : List Call → Scene
 after calls = run hill calls
 
+-- jobs are given as bytes, and expected as what is printed of them, the drawing after play too
 abbrev pub examples : List Example
 examples =
-    record { given = judged (job_line ++ one_block); expected = line (codes "OK       3     3     1") }
-    ∷ record { given = judged (job_line ++ nothing); expected = line (codes "OK       0     0     0") }
-    ∷ record { given = judged (job_line ++ no_leave); expected = line (codes "BAD     21     3     0") }
-    ∷ record { given = judged (job_line ++ delayed); expected = line (codes "BAD     16     3     1") }
-    ∷ record { given = judged (job_line_set_1 ++ one_block); expected = line (codes "BAD     14     2     0") }
+    record { given = answered (job_line ++ one_block); expected = line (codes "OK       3     3     1") ++ line (codes "  0  0  0  0  1  0  0  0  0") }
+    ∷ record { given = answered (job_line ++ nothing); expected = line (codes "OK       0     0     0") ++ line (codes "  0  0  0  0  0  0  0  0  0") }
+    ∷ record { given = answered (job_line ++ no_leave); expected = line (codes "BAD     21     3     0") }
+    ∷ record { given = answered (job_line ++ delayed); expected = line (codes "BAD     16     3     1") }
+    ∷ record { given = answered (job_line_set_1 ++ one_block); expected = line (codes "BAD     14     2     0") }
     ∷ record { given = numbers (square_refusal 16 1); expected = [] }
     ∷ record { given = numbers (square_refusal 17 1); expected = 1 ∷ 0 ∷ 0 ∷ [] }
     ∷ record { given = numbers (refusal hill (Lift 5 6)); expected = 30 ∷ 0 ∷ 7 ∷ [] }
@@ -118,11 +114,3 @@ examples =
     ∷ record { given = named (recall (after (Leave 5 ∷ Tick ∷ Move 7 6 ∷ Tick ∷ Move 6 1 ∷ Tick ∷ []))); expected = 1 ∷ 256 ∷ 1 ∷ [] }
     ∷ record { given = named (recall (after (Leave 5 ∷ Tick ∷ Move 7 6 ∷ Tick ∷ Move 6 1 ∷ Tick ∷ Leave 1 ∷ Tick ∷ []))); expected = 32 ∷ 0 ∷ 0 ∷ [] }
     ∷ []
-
--- what is printed of the first job once its plan was played: its figures, and the heights then
-abbrev pub played : List ℕ
-played = line (codes "OK       3     3     1") ++ line (codes "  0  0  0  0  1  0  0  0  0")
-
-pub record ExamplesHold : Type 0 where
-  pub computed : agree examples ≡ true
-  pub answers : answered (job_line ++ one_block) ≡ played

@@ -1,4 +1,4 @@
-use Rattle.std.proofs.Common.{◌≡◌, ℕ, Ok, Err, MatchResult, rules, List, ◌++◌, Some, None, vec_items, codes, sum_by, Option, Result, sym, ap, ◌∙◌, subst}
+use Rattle.std.proofs.Common.{◌≡◌, ℕ, Ok, Err, MatchResult, rules, List, ◌++◌, Some, None, vec_items, codes, Option, Result, sym, ap, ◌∙◌, subst}
 use Rattle.terms.specs.Refusals.{Answers, Settles, Silent, Told, refusal_in, told_of}
 use Rattle.terms.specs.declared.refusal.Refusal.{Refusal}
 use Rattle.terms.specs.View.{settings_of}
@@ -8,7 +8,7 @@ use Rattle.gate.specs.Scene.{Scene}
 use Rattle.plan.specs.Plan.{Action, makespan}
 use Rattle.plan.specs.Rules.{Rules, target_of}
 use Rattle.sheet.specs.View.{records_in}
-use Rattle.judge.specs.Figures.{Figures, cost}
+use Rattle.judge.specs.Figures.{Computed, Figures, costs_of}
 use Rattle.play.specs.Play.{Outcome, play_on}
 use Rattle.play.specs.Stands.{Comes}
 use Rattle.draw.specs.Rows.{text as drawing}
@@ -20,17 +20,16 @@ use Rattle.job.specs.declared.opened.Judged.{Judged}
 use Rattle.job.specs.declared.reply.Played.{Played}
 use Rattle.job.specs.declared.reply.Stop.{Stop}
 use Rattle.job.specs.Written.{written}
-use Rattle.job.proofs.Figured.{makespan_is, most_is}
 use Rattle.job.proofs.Played.{is_accepted, is_held}
 use Rattle.job.proofs.Settled.{job_settles}
 use Rattle.job.proofs.reply.play_out.Goals as goal
 
--- the row of the figures in words is the row of those that are computed
-figured : (plan : List Action) (m c k : ℕ) → Figures plan m c k → row (codes "OK  ") m c k ≡ ok_row plan
+-- the row of an acceptance is the row of the figures that are computed
+figured : (plan : List Action) (m c k : ℕ) → Computed plan m c k → row (codes "OK  ") m c k ≡ ok_row plan
 figured plan m c k f =
-    ap (λ (x : ℕ). row (codes "OK  ") x c k) (makespan_is plan m c k f)
-    ∙ ap (λ (x : ℕ). row (codes "OK  ") (makespan plan) x k) f.summed
-    ∙ ap (λ (x : ℕ). row (codes "OK  ") (makespan plan) (sum_by cost plan) x) (most_is plan m c k f)
+    ap (λ (x : ℕ). row (codes "OK  ") x c k) f.makespan_so
+    ∙ ap (λ (x : ℕ). row (codes "OK  ") (makespan plan) x k) f.costs_so
+    ∙ ap (λ (x : ℕ). row (codes "OK  ") (makespan plan) (costs_of plan) x) f.most_so
 
 -- what was judged and played is the job's
 module _ (input : List ℕ) (j : Judged) (is : Judges input j) where
@@ -51,6 +50,9 @@ module _ (input : List ℕ) (j : Judged) (is : Judges input j) where
 
   silent : job_refusal input ≡ None → Silent (job_reasons input)
   silent none = subst (Settles (job_reasons input)) none (job_settles input)
+
+  computed : Computed (plan_in input) j.plan.makespan j.plan.costs j.plan.most
+  computed = subst (λ (p : List Action). Computed p j.plan.makespan j.plan.costs j.plan.most) is.accepts.plan is.accepts.computed
 
   figures : Figures (plan_in input) j.plan.makespan j.plan.costs j.plan.most
   figures = subst (λ (p : List Action). Figures p j.plan.makespan j.plan.costs j.plan.most) is.accepts.plan is.accepts.figures
@@ -95,7 +97,7 @@ module _ (input : List ℕ) (j : Judged) (is : Judges input j) where
       ap (λ (x : ℕ). row (codes "OK  ") x c k ++ drawing hs) em ∙ ap (λ (x : ℕ). row (codes "OK  ") plan.makespan x k ++ drawing hs) ec
       ∙ ap (λ (x : ℕ). row (codes "OK  ") plan.makespan plan.costs x ++ drawing hs) ek
       ∙ ap (λ (l : List ℕ). row (codes "OK  ") plan.makespan plan.costs plan.most ++ drawing l) drawn in (
-        all ∙ ap (λ (l : List ℕ). l ++ drawing (heights n (outcome input).site)) (figured (plan_in input) plan.makespan plan.costs plan.most figures) ∙ sym (goes_on none None stays),
+        all ∙ ap (λ (l : List ℕ). l ++ drawing (heights n (outcome input).site)) (figured (plan_in input) plan.makespan plan.costs plan.most computed) ∙ sym (goes_on none None stays),
         subst (Verdict input) (sym all) (is_accepted input (settings_of j.job.settings) (outcome input) plan.makespan plan.costs plan.most (silent none) figures (came comes) stays),
       )
 

@@ -1,11 +1,17 @@
-use Rattle.std.proofs.Common.{ap, ◌∙◌, sym, sum_by}
+use Rattle.std.proofs.Common.{ap, ◌∙◌, vec_items}
+use Rattle.plan.specs.Plan.{makespan}
 use Rattle.plan.specs.View.{plan_of}
-use Rattle.judge.specs.Figures.{cost}
 use Rattle.judge.proofs.Figured.{figured}
-use Rattle.judge.specs.Finding.{most_at_once}
 use Rattle.judge.proofs.judging.accept.Goals as goal
+
+pub returns-clause-computed : goal.returns-clause-computed
+returns-clause-computed c =
+    record {
+      makespan_so = c.latest_end-makespan.ensures ∙ ap (λ xs. makespan (plan_of xs)) c.as_slice-plan.ensures.value;
+      costs_so = c.costs-costs.ensures;
+      most_so = c.args.actions.busiest;
+    }
 
 pub returns-clause-figures : goal.returns-clause-figures
 returns-clause-figures c =
-    rw (sym c.as_slice-plan.ensures.value, c.latest_end-makespan.ensures)
-    (figured (plan_of c.as_slice-plan.result.now) c.costs-costs.result c.args.actions.most (c.costs-costs.ensures ∙ ap (λ xs. sum_by cost (plan_of xs)) (sym c.as_slice-plan.ensures.value)) (c.args.actions.busiest ∙ ap (λ xs. most_at_once (plan_of xs)) (sym c.as_slice-plan.ensures.value)))
+    figured (plan_of (vec_items c.args.actions.list)) c.latest_end-makespan.result c.costs-costs.result c.args.actions.most (returns-clause-computed c)

@@ -75,6 +75,7 @@ returns g c =
     let accepts : Accepting sheet c.accept.result = record {
       plan = c.accept.ensures.plan.0 ∙ lines.1.0 ∙ ap (λ (x : Records). written_plan x.acts) read.1;
       targets = c.accept.ensures.plan.1 ∙ ap (λ (x : Records). x.targets) read.1;
+      computed = c.accept.ensures.computed;
       figures = c.accept.ensures.figures;
     } in
     verdict m s sheet (timed c.args.settings.now) (Ok c.accept.result) (none, accepts)

@@ -2,7 +2,8 @@ use Rattle.std.proofs.Common.{vec_items, length, sym, ap, ◌∙◌, subst, arit
 use Rattle.std.proofs.lemmas.List.{nil_from_length}
 use Rattle.plan.specs.Plan.{delivers, is_deliver, is_pick_up, picks}
 use Rattle.plan.specs.View.{plan_of}
-use Rattle.judge.specs.Finding.{Passed, most_at_once}
+use Rattle.judge.specs.Finding.{Passed}
+use Rattle.judge.specs.Figures.{most_at_once}
 use Rattle.judge.specs.Judging.{latest_start}
 use Rattle.judge.proofs.Heights.{delivering, picking, tally_none}
 use Rattle.judge.proofs.Past.{passed_none}

@@ -4,7 +4,8 @@ use Rattle.std.proofs.lemmas.List.{length-map, map_push}
 use Rattle.plan.specs.declared.action.Action.{Action as Held}
 use Rattle.plan.specs.Plan.{Action, delivers, is_deliver, is_pick_up, picks, line, no_action, runs}
 use Rattle.plan.specs.View.{action_of, plan_of}
-use Rattle.judge.specs.Finding.{Passed, Tally, most_at_once}
+use Rattle.judge.specs.Finding.{Passed, Tally}
+use Rattle.judge.specs.Figures.{most_at_once}
 use Rattle.judge.specs.Judging.{latest_start}
 use Rattle.judge.proofs.Heights.{delivering, picking, tally_push}
 use Rattle.judge.proofs.Most.{most_push}
