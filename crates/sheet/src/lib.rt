@@ -10,6 +10,8 @@ mod record;
 mod room;
 mod sheet;
 mod target;
+#[cfg(test)]
+mod tests;
 mod unread;
 
 pub use field::number;
