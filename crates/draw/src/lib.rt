@@ -1,10 +1,10 @@
 // Numbers in so many places, and the drawing of heights into a buffer.
 #![tactic(auto)]
 
-ghost use Rattle.std.specs.Prelude.{◌≡◌, ◌+◌, ◌*◌, ◌/◌, ◌<◌, ◌≤◌, ◌++◌, length, drop, IfOk, IfErr};
+ghost use Rattle.std.specs.Prelude.{◌≡◌, ◌+◌, ◌*◌, ◌/◌, ◌<◌, ◌≤◌, ◌++◌, length, take, drop, IfOk, IfErr};
 ghost use Rattle.terms.specs.Refusals.{Answers};
 ghost use Rattle.terms.specs.declared.refusal.Rule.TheVariants.{BufferShort};
-ghost use Rattle.draw.specs.Rows.{buffered, draw_refusal, row_text, text};
+ghost use Rattle.draw.specs.Rows.{Draws, buffered, draw_refusal, row_text, text};
 ghost use Rattle.draw.specs.Places.{justified};
 
 use terms::{Refusal, Rule};
@@ -63,6 +63,7 @@ fn write_rows(heights: &[u8], out: &mut [u8])
 pub fn draw(heights: &[u8], out: &mut [u8]) -> Result<usize, Refusal>
     ensures value { Answers (draw_refusal heights.now out.old) (λ n. n ≡ length (text heights.now)) result }
     ensures after { out.new ≡ buffered heights.now out.old result }
+    ensures words { IfOk result (λ n. Draws heights.now (take n out.new)) }
 {
     let size = drawn_size(heights.len(), out.len())?;
     write_rows(heights, out);

@@ -1,6 +1,6 @@
 -- Each test of the gate decides its reason in words, so the first that holds decides the call. Assumes nothing.
 use Rattle.std.proofs.Common.{◌≡◌, ℕ, suc, ◌<◌, ◌≤◌, Bool, true, false, not, ◌||◌, eqb, ltb, leb, is_some, Some, None, Decides, Option, unwrap_or, sym, refl, ap, ◌∙◌, subst, inl, inr, arith}
-use Rattle.std.proofs.lemmas.Bool.{false≢true, true≢false, both_ways, leb-true, le-leb, cases_lt}
+use Rattle.std.proofs.lemmas.Bool.{false≢true, true≢false, both_ways, cases_lt}
 use Rattle.std.proofs.lemmas.Bool.Decides.{Decides-and, Decides-not, Decides-ltb, Decides-eqb, Decides-like, nat_tests}
 use Rattle.terms.specs.Refusals.{Told}
 use Rattle.terms.proofs.First.{Decide, first_settles}
@@ -18,7 +18,8 @@ use Rattle.gate.specs.declared.column.State.TheVariants.{Free, Standing, Busy}
 use Rattle.gate.specs.Column.{held, stands, robot, carries}
 use Rattle.gate.specs.Scene.{Scene, height_at, state_at, tried, robots}
 use Rattle.gate.specs.Gate.{off, stranded_by, lowest_stranded, tests, refusal, settle, grant}
-use Rattle.gate.specs.Words.{OnGround, Robot, Stranded, LowestStranded, reasons, Details, Decided, Performed}
+use Rattle.gate.proofs.Crews.{decides_many}
+use Rattle.gate.specs.Words.{Crew, OnGround, Robot, Stranded, LowestStranded, reasons, Details, Decided, Performed}
 
 -- a part fails
 not_both : {P Q : Type 0} (a b : Bool) → Decides a P → Decides b Q → Decides (not a || not b) (P × Q → ⊥)
@@ -96,6 +97,13 @@ module _ (v : Scene) (law : Lawful v.meaning) where
   no_link : (c d : ℕ) → Decides (not (v.meaning.linked c d) || v.meaning.border d) ((v.meaning.linked c d ≡ true) × (v.meaning.border d ≡ false) → ⊥)
   no_link c d = not_both_but (v.meaning.linked c d) (v.meaning.border d) (decides_is (v.meaning.linked c d)) (decides_isnt (v.meaning.border d))
 
+  crew_decides : Decides (leb v.settings.robots (robots v.meaning v.columns)) (Crew v v.settings.robots)
+  crew_decides =
+      Decides-like (leb v.settings.robots (robots v.meaning v.columns))
+      (λ h. record { columns = h.0; different = h.1; with_robots = h.2; many = h.3 })
+      (λ w. (w.columns, w.different, w.with_robots, w.many))
+      (decides_many (λ c. robot (state_at v.columns c)) v.meaning.columns v.settings.robots (leb v.settings.robots (robots v.meaning v.columns)) (decides_leb v.settings.robots (robots v.meaning v.columns)))
+
   -- the detail of a call that is refused for want of a way home
   detail : Call → ℕ
   detail (Enter c b) = 0
@@ -119,7 +127,7 @@ module _ (v : Scene) (law : Lawful v.meaning) where
   decide : (k : Call) → Decide (tests v.meaning v.settings v.columns (tried v) k) (reasons v k (detail k))
   unfolding detail
   decide (Enter c b) =
-      let full = decides_leb v.settings.robots (robots v.meaning v.columns) in
+      let full = crew_decides in
       (off_decides c, refl, (not_border c, refl, (held_decides (state_at v.columns c), refl, (full, refl, tt))))
   decide (Move c d) =
       let link = Decides-not (v.meaning.linked c d) (decides_is (v.meaning.linked c d)) in

@@ -1,4 +1,5 @@
 pub mod Below
+pub mod Crews
 pub mod Lies
 pub mod Deciding
 pub mod Trying

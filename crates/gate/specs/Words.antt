@@ -1,14 +1,16 @@
 -- The refusals of the gate in words: of each, what has to be the case. Assumes nothing.
-use Rattle.std.specs.Prelude.{◌≡◌, ℕ, suc, ◌<◌, ◌≤◌, Bool, true, false, List, [], ◌∷◌, Some, Option, ◌≢◌}
+use Rattle.std.specs.Prelude.{◌≡◌, ℕ, suc, ◌<◌, ◌≤◌, Bool, true, false, List, [], ◌∷◌, length, Some, Option, ◌≢◌}
+use Rattle.std.specs.List.{AllByRecursion}
 use Rattle.terms.specs.Refusals.{Reason, Settles, Told, told}
 use Rattle.terms.specs.declared.refusal.Rule.{Rule}
 use Rattle.terms.specs.declared.refusal.Rule.TheVariants.{NoColumn, NoStandingRobot, WrongLoad, NoLink, ColumnHeld, WrongHeights, SiteFull, NoWayHome}
+use Rattle.ground.specs.Rises.{Rising}
 use Rattle.ways.specs.Way.{Near, NoWay}
 use Rattle.gate.specs.declared.call.Call.{Call}
 use Rattle.gate.specs.declared.call.Call.TheVariants.{Enter, Move, Lay, Lift, Leave, Tick, Recall}
 use Rattle.gate.specs.declared.column.State.TheVariants.{Free, Standing}
 use Rattle.gate.specs.Column.{robot, carries}
-use Rattle.gate.specs.Scene.{Scene, height_at, state_at, tried, robots}
+use Rattle.gate.specs.Scene.{Scene, height_at, state_at, tried}
 use Rattle.gate.specs.Gate.{refusal, step}
 
 abbrev pub OnGround : Scene → ℕ → Type 0
@@ -29,6 +31,13 @@ Loaded v c = carries (state_at v.columns c) ≡ true
 abbrev pub Held : Scene → ℕ → Type 0
 Held v c = state_at v.columns c ≡ Free → ⊥
 
+-- n different columns of the ground or more, each with a robot
+pub record Crew (v : Scene) (n : ℕ) : Type 0 where
+  pub columns : List ℕ
+  pub different : Rising 0 columns
+  pub with_robots : AllByRecursion (λ c. OnGround v c × Robot v c) columns
+  pub many : n ≤ length columns
+
 -- with column d changing too, a robot is at c and has no way home
 abbrev pub Stranded : Scene → ℕ → ℕ → Type 0
 Stranded v d c = OnGround v c × Robot v c × NoWay v.meaning (tried v d) c
@@ -46,7 +55,7 @@ reasons v (Enter c block) x =
     (because NoColumn (OnGround v c → ⊥))
     ∷ (because NoLink (v.meaning.border c ≢ true))
     ∷ (because ColumnHeld (Held v c))
-    ∷ (because SiteFull (v.settings.robots ≤ robots v.meaning v.columns)) ∷ []
+    ∷ (because SiteFull (Crew v v.settings.robots)) ∷ []
 reasons v (Move c d) x =
     (because NoColumn (OnGround v c × OnGround v d → ⊥))
     ∷ (because NoStandingRobot (Stands v c → ⊥))

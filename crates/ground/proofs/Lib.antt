@@ -1,4 +1,5 @@
 pub mod Coordinates
+pub mod Told
 pub mod Among
 pub mod Picks
 pub mod EmptyPlaces

@@ -1,5 +1,5 @@
 -- The listed ground: a border list and a list of links, and which lists are refused. Assumes nothing.
-use Rattle.std.specs.Prelude.{◌≡◌, ℕ, zero, suc, ◌<◌, ◌≤◌, Bool, true, false, not, ◌&&◌, ◌||◌, leb, ◌⊎◌, List, [], ◌∷◌, length, get_or, count_by, Option, ◌==◌, nat_le, nat_lt, slice_index, slice_index_or}
+use Rattle.std.specs.Prelude.{◌≡◌, ℕ, zero, suc, ◌<◌, ◌≤◌, Bool, true, false, not, ◌&&◌, ◌||◌, leb, ◌⊎◌, List, [], ◌∷◌, length, get_or, count_by, Decides, Option, ◌==◌, nat_le, nat_lt, slice_index, slice_index_or}
 use Rattle.std.specs.List.{list_all}
 use Rattle.terms.specs.declared.refusal.Rule.TheVariants.{BorderList, LinkOrder, SeventhLink}
 use Rattle.terms.specs.Refusals.{Reason, Told, first_of, told}
@@ -25,6 +25,16 @@ listed columns border links = record {
   border = λ c. (slice_index border c == 1);
   linked = λ c d. some_joins c d links;
 }
+
+-- a link of the list joins c and d, one way or the other
+abbrev pub Lists : List Link → ℕ → ℕ → Type 0
+Lists links c d = (i : ℕ) × (i < length links) × ((get_or links i (0, 0) ≡ (c, d)) ⊎ (get_or links i (0, 0) ≡ (d, c)))
+
+-- a meaning that is the listed ground of a border list and a list of links, told column by column
+pub record IsListed (n : ℕ) (bytes : List ℕ) (links : List Link) (m : Meaning) : Type 0 where
+  pub columns : m.columns ≡ n
+  pub border : (c : ℕ) → c < n → Decides (m.border c) (slice_index bytes c ≡ 1)
+  pub linked : (c d : ℕ) → Decides (m.linked c d) (Lists links c d)
 
 -- 1 to 256 columns, and a byte of 0 or 1 for each
 abbrev pub border_fits : ℕ → List ℕ → Bool

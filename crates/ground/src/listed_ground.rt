@@ -1,8 +1,8 @@
 // Making a listed ground, and what it tells.
-ghost use Rattle.std.specs.Prelude.{◌≡◌, ◌<◌, ◌≤◌, [], length, slice_index_or, MatchOption};
+ghost use Rattle.std.specs.Prelude.{◌≡◌, ◌<◌, ◌≤◌, [], length, slice_index_or, IfOk, MatchOption};
 ghost use Rattle.std.specs.List.{flat_map};
 ghost use Rattle.terms.specs.Refusals.{Answers, Settles, refusal_in};
-ghost use Rattle.ground.specs.Listing.{Inside, Crowded, ascends, border_fits, listed, listing_refusal, listing_reasons};
+ghost use Rattle.ground.specs.Listing.{Inside, IsListed, Crowded, ascends, border_fits, listed, listing_refusal, listing_reasons};
 ghost use Rattle.ground.specs.Meaning.{Same};
 ghost use Rattle.ground.specs.Table.{Filled, no_row, other};
 ghost use Rattle.ground.specs.View.{listed_of};
@@ -71,6 +71,7 @@ impl Listed {
     pub fn new(columns: u16, border: &[u8], links: &[(u16, u16)]) -> Result<Listed, Refusal>
         ensures value { Answers (listing_refusal columns border.now links.now) (λ l. Same (listed_of l) (listed columns border.now links.now)) result }
         ensures words { Settles (listing_reasons columns border.now links.now) (refusal_in result) }
+        ensures means { IfOk result (λ l. IsListed columns border.now links.now (listed_of l)) }
     {
         if !is_border_list(columns, border) {
             return Err(Rule::BorderList.into());

@@ -14,6 +14,8 @@ use Rattle.plan.specs.Judged.{Collide, Judged, IsLeftStanding, Meets, Timed}
 use Rattle.plan.specs.Lines.{written_action}
 use Rattle.plan.specs.Plan.{Action, carried, end_column, height_at, line, makespan, no_action}
 use Rattle.plan.specs.Reasons.{line_reasons}
+use Rattle.plan.specs.Stands.{StandsFor}
+use Rattle.plan.proofs.Standing.{stands}
 use Rattle.plan.specs.Rules.{Carried, Loaded, Marks, OneColumn, SheetRules, no_act, written_plan, target_of, written}
 use Rattle.plan.proofs.Formed.{formed}
 use Rattle.plan.proofs.Judged.{rules_as_judged}
@@ -130,7 +132,11 @@ module _ (m : Meaning) (s : SiteSettings) where
           carried_on = e.0;
           reached = e.1;
         } in
-        record { marks = λ i l. (each i l).0; rules = (rules_as_judged m s plan (target_of r.targets) timed).0 j }
+        record {
+          marks = λ i l. (each i l).0;
+          stands = λ i l. subst (StandsFor (written acts i)) (sym (action_at i l)) (stands (written acts i) (each i l).0);
+          rules = (rules_as_judged m s plan (target_of r.targets) timed).0 j;
+        }
 
     pub rules_silent : SheetRules m s r → Silent (sheet_reasons m s r)
     rules_silent ru =

@@ -2,7 +2,7 @@
 ghost use Rattle.std.specs.Prelude.{◌≡◌, length, is_ok, Decides};
 ghost use Rattle.terms.specs.Refusals.{Answers, Settles, first_of, from_on, refusal_in};
 ghost use Rattle.terms.specs.View.{settings_of};
-ghost use Rattle.plan.specs.Rules.{written_plan, target_of};
+ghost use Rattle.plan.specs.Rules.{LinesStand, written_plan, target_of};
 ghost use Rattle.plan.specs.View.{plan_of};
 ghost use Rattle.sheet.specs.View.{records_in};
 ghost use Rattle.judge.specs.Figures.{Computed, Figures};
@@ -83,6 +83,7 @@ pub fn judge<G: Ground>(
     ensures value { Answers (judging_refusal (G.Ground.meaning ground.now) (settings_of settings.now) sheet.now) (λ a. Accepts (records_in sheet.now) a) result }
     ensures words { Settles (judging_reasons (G.Ground.meaning ground.now) (settings_of settings.now) sheet.now) (refusal_in result) }
     ensures rules { Decides (is_ok result) (Keeps (G.Ground.meaning ground.now) (settings_of settings.now) sheet.now) }
+    ensures lines { LinesStand }
 {
     let Room { reading, actions } = room;
     let read = read_sheet(ground, settings, sheet, reading)?;

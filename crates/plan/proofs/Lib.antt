@@ -4,3 +4,4 @@ pub mod Busiest
 pub mod Judged
 pub mod Lined
 pub mod Formed
+pub mod Standing

@@ -1,5 +1,5 @@
 -- Each rule of a line by itself decides its reason in words; and what the marks of a line say of its action. Assumes nothing.
-use Rattle.std.proofs.Common.{◌≡◌, ℕ, Bool, true, false, not, ◌&&◌, eqb, ltb, Decides, sym, refl}
+use Rattle.std.proofs.Common.{◌≡◌, ℕ, Bool, true, false, not, ◌&&◌, eqb, ltb, suc, ◌≢◌, ◌⊎◌, Decides, sym, refl, inl, inr, arith}
 use Rattle.std.proofs.lemmas.Bool.{not_from_false, not-true, true≢false}
 use Rattle.std.proofs.lemmas.Bool.Decides.{Decides-and, Decides-eqb, Decides-like, Decides-ltb, Decides-not}
 use Rattle.terms.specs.Durations.{SiteSettings}
@@ -14,7 +14,7 @@ use Rattle.sheet.specs.declared.record.Letter.TheVariants.{M, P, D}
 use Rattle.plan.specs.Lines.{written_action, alike, due, joins, line_tests, marked, marks_fit, on_scale, suits, top}
 use Rattle.plan.specs.Plan.{Action}
 use Rattle.plan.specs.Reasons.{line_reasons}
-use Rattle.plan.specs.Rules.{Joined, Marks, OnScale, Suited}
+use Rattle.plan.specs.Rules.{Joined, LevelFits, Marks, OnScale, Suited}
 use Rattle.plan.proofs.Searches.{stable}
 
 pub decides_alike : (a b : Bool) → Decides (alike a b) (a ≡ b)
@@ -34,7 +34,7 @@ decides_one_side true true = (λ e. absurd (true≢false (sym e)), λ n. absurd 
 decides_one_side true false = (λ _ _ e. true≢false (sym e), λ _. refl)
 decides_one_side false b = (λ _ e _. true≢false (sym e), λ _. refl)
 
-decides_marks : (l : ActLine) → Decides (marks_fit l) (Marks l)
+pub decides_marks : (l : ActLine) → Decides (marks_fit l) (Marks l)
 decides_marks l =
     let fc = marked l.from.column in
     let fh = marked l.from.height in
@@ -47,14 +47,38 @@ decides_marks l =
     (Decides-and (alike tc th) _ (decides_alike tc th)
     (Decides-and (not (fc && tc)) _ (decides_one_side fc tc) (decides_suits l.letter fc tc l.carry))))
 
+-- of a work that neither picks up nor delivers
+same_level : (s : SiteSettings) (w : Work) (h : ℕ) → (w ≢ PickUp) → (w ≢ Deliver) → Decides (ltb h s.levels) (LevelFits s w h)
+same_level s w h p d =
+    Decides-like (ltb h s.levels)
+    (λ l. record { level = l; room = λ q. absurd (elim q [ inl e ↦ p e | inr e ↦ d e ]) })
+    (λ f. f.level)
+    (Decides-ltb h s.levels)
+
+-- of one that does
+higher_level : (s : SiteSettings) (w : Work) (h : ℕ) → (w ≡ PickUp) ⊎ (w ≡ Deliver) → Decides (ltb (suc h) s.levels) (LevelFits s w h)
+higher_level s w h q =
+    Decides-like (ltb (suc h) s.levels)
+    (λ l. record { level = omega arith; room = λ _. l })
+    (λ f. f.room q)
+    (Decides-ltb (suc h) s.levels)
+
+decides_level : (s : SiteSettings) (w : Work) (h : ℕ) → Decides (ltb (top w h) s.levels) (LevelFits s w h)
+decides_level s Entry h = same_level s Entry h (λ e. cc) (λ e. cc)
+decides_level s Leave h = same_level s Leave h (λ e. cc) (λ e. cc)
+decides_level s Wait h = same_level s Wait h (λ e. cc) (λ e. cc)
+decides_level s Move h = same_level s Move h (λ e. cc) (λ e. cc)
+decides_level s PickUp h = higher_level s PickUp h (inl refl)
+decides_level s Deliver h = higher_level s Deliver h (inr refl)
+
 decides_scale : (m : Meaning) (s : SiteSettings) (a : Action) → Decides (on_scale m s a) (OnScale m s a)
 decides_scale m s a =
     Decides-like (on_scale m s a)
     (λ p. record { from_ground = p.0.0; from_level = p.0.1; to_ground = p.1.0; to_level = p.1.1 })
     (λ r. ((r.from_ground, r.from_level), (r.to_ground, r.to_level)))
     (Decides-and (ltb a.from m.columns && ltb (top a.work a.from_height) s.levels) _
-    (Decides-and (ltb a.from m.columns) _ (Decides-ltb _ _) (Decides-ltb _ _))
-    (Decides-and (ltb a.to m.columns) _ (Decides-ltb _ _) (Decides-ltb _ _)))
+    (Decides-and (ltb a.from m.columns) _ (Decides-ltb _ _) (decides_level s a.work a.from_height))
+    (Decides-and (ltb a.to m.columns) _ (Decides-ltb _ _) (decides_level s a.work a.to_height)))
 
 decides_joins : (m : Meaning) (w : Work) (f o : ℕ) → Decides (joins m w f o) (Joined m w f o)
 decides_joins m Entry f o = decides_is (m.border f)

@@ -1,5 +1,5 @@
 -- The rules that a plan keeps, each in words of all its actions, and what marks and carry a line may have. Assumes nothing.
-use Rattle.std.specs.Prelude.{◌≡◌, ℕ, suc, ◌<◌, ◌≤◌, Bool, true, false, cond, ◌≢◌, List, [], ◌∷◌, map, length, count_by, ◌==◌, slice_index_or}
+use Rattle.std.specs.Prelude.{◌≡◌, ℕ, suc, ◌<◌, ◌≤◌, Bool, true, false, cond, ◌≢◌, ◌⊎◌, List, [], ◌∷◌, map, length, count_by, ◌==◌, slice_index_or}
 use Rattle.terms.specs.Durations.{SiteSettings}
 use Rattle.terms.specs.declared.work.Work.{Work}
 use Rattle.terms.specs.declared.work.Work.TheVariants.{Entry, Leave, Wait, Move, PickUp, Deliver}
@@ -10,8 +10,9 @@ use Rattle.sheet.specs.declared.record.Letter.{Letter}
 use Rattle.sheet.specs.declared.record.Letter.TheVariants.{M, P, D}
 use Rattle.sheet.specs.declared.record.Place.TheVariants.{Outside}
 use Rattle.sheet.specs.declared.target.Target.{Target}
-use Rattle.plan.specs.Lines.{written_action, due, marked, top}
+use Rattle.plan.specs.Lines.{written_action, due, marked}
 use Rattle.plan.specs.Plan.{Action, Ends, Runs, Starts, Touches, carry_after, end_column, height_at, line, runs}
+use Rattle.plan.specs.Stands.{StandsFor}
 
 -- marks stand only with M; P is empty-handed, D has a block
 abbrev pub Suited : Letter → Bool → Bool → Bool → Type 0
@@ -25,6 +26,10 @@ pub record Marks (l : ActLine) : Type 0 where
   pub to_whole : marked l.to.column ≡ marked l.to.height
   pub one_side : marked l.from.column ≡ true → marked l.to.column ≢ true
   pub suited : Suited l.letter (marked l.from.column) (marked l.to.column) l.carry
+
+-- what judging takes a well marked line for is what the line stands for
+pub record LinesStand : Type 0 where
+  pub stands : (l : ActLine) → Marks l → StandsFor l (written_action l)
 
 -- an entry, a leave and a wait have one column
 abbrev pub OneColumn : Work → ℕ → ℕ → Type 0
@@ -44,12 +49,17 @@ Loaded Move block = Unit {0}
 Loaded PickUp block = block ≡ false
 Loaded Deliver block = block ≡ true
 
--- the columns are on the ground, and come no higher than the highest height
+-- a height is below the levels, and so is one more where a robot picks up or delivers
+pub record LevelFits (s : SiteSettings) (w : Work) (h : ℕ) : Type 0 where
+  pub level : h < s.levels
+  pub room : (w ≡ PickUp) ⊎ (w ≡ Deliver) → suc h < s.levels
+
+-- the columns are on the ground, and their heights fit
 pub record OnScale (m : Meaning) (s : SiteSettings) (a : Action) : Type 0 where
   pub from_ground : a.from < m.columns
-  pub from_level : top a.work a.from_height < s.levels
+  pub from_level : LevelFits s a.work a.from_height
   pub to_ground : a.to < m.columns
-  pub to_level : top a.work a.to_height < s.levels
+  pub to_level : LevelFits s a.work a.to_height
 
 -- entry and leave at the border; move, pick up and deliver along a link; no block is taken from or put on a border column
 abbrev pub Joined : Meaning → Work → ℕ → ℕ → Type 0
@@ -131,4 +141,5 @@ written_plan acts = map written_action acts
 -- the rules of a sheet that reads: how its lines are written, and what they stand for
 pub record SheetRules (m : Meaning) (s : SiteSettings) (r : Records) : Type 0 where
   pub marks : (i : ℕ) → i < length r.acts → Marks (written r.acts i)
+  pub stands : (i : ℕ) → i < length r.acts → StandsFor (written r.acts i) (line (written_plan r.acts) i)
   pub rules : Rules m s (written_plan r.acts) (target_of r.targets)

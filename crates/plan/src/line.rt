@@ -1,9 +1,10 @@
 // The rules that a line has to keep by itself, and the action that it then stands for.
-ghost use Rattle.std.specs.Prelude.{◌≡◌, ◌+◌, true, false, ◌&&◌, Some, None, MatchOption, MatchResult, ◌==◌, nat_lt};
+ghost use Rattle.std.specs.Prelude.{◌≡◌, ◌+◌, true, false, ◌&&◌, Some, None, IfOk, MatchOption, MatchResult, ◌==◌, nat_lt};
 ghost use Rattle.terms.specs.Durations.{duration_of};
 ghost use Rattle.terms.specs.Refusals.{Answers, first_of, told};
 ghost use Rattle.terms.specs.View.{settings_of};
 ghost use Rattle.plan.specs.Lines.{marked, numbered, marks_fit, written_action, joins, top, line_tests};
+ghost use Rattle.plan.specs.Stands.{StandsFor};
 ghost use Rattle.plan.specs.View.{action_of, start_of, end_of};
 ghost use Rattle.plan.specs.Asking.{asked_of, asked_in};
 
@@ -158,7 +159,8 @@ pub fn action_of<G: Ground>(
     settings: &Settings,
     line: &ActLine,
 ) -> Result<Action, Refusal>
-    ensures { Answers (first_of (line_tests (G.Ground.meaning ground.now) (settings_of settings.now) line.now)) (λ a. action_of a ≡ written_action line.now) result }
+    ensures value { Answers (first_of (line_tests (G.Ground.meaning ground.now) (settings_of settings.now) line.now)) (λ a. action_of a ≡ written_action line.now) result }
+    ensures stands { IfOk result (λ a. StandsFor line.now (action_of a)) }
 {
     let read = Hall { ground, settings }.read_action(line);
     read.map_err(|rule| Refusal::at(rule, line.line, 0))

@@ -12,11 +12,12 @@ use Rattle.gate.specs.declared.call.Call.TheVariants.{Enter, Lay, Leave, Lift, M
 use Rattle.gate.specs.declared.column.Part.TheVariants.{Arriving, Departing, Entering, Laying, Leaving, Lifting, Rising, Sinking}
 use Rattle.gate.specs.declared.column.State.{State}
 use Rattle.gate.specs.declared.column.State.TheVariants.{Busy}
-use Rattle.gate.specs.Column.{carries, changes}
+use Rattle.gate.specs.Column.{carries, changes, robot}
 use Rattle.gate.specs.Gate.{grant, granted, granted_marks, refusal, settle}
 use Rattle.gate.specs.Scene.{Columns, state_at}
 use Rattle.gate.specs.Scene.{height_at as height_in}
 use Rattle.gate.specs.Words.{Decided, LowestStranded, Stranded, reasons}
+use Rattle.gate.proofs.Crews.{no_longer}
 use Rattle.gate.proofs.Deciding.{decided}
 use Rattle.plan.specs.Plan.{Action, Touches}
 use Rattle.play.specs.Play.{call_for, called, refusal_of}
@@ -109,7 +110,7 @@ module _ {m : Meaning} {s : SiteSettings} {a : Action} {xs : Columns} where
   fits_so Wait r l = tt
   fits_so MoveWork r l = tt
   fits_so PickUp r l = omega (arith, r.written.1.0)
-  fits_so Deliver r l = omega (arith, r.written.1.0, r.to_level)
+  fits_so Deliver r l = omega (arith, r.written.1.0, r.to_level.room (inr refl))
 
 module _ (m : Meaning) (s : SiteSettings) (a : Action) (xs : Columns) (ms : List ℕ) (law : Lawful m) (mk : Marked xs ms) where
   few : (w : Work) → Ready m s a w xs → a.to < 256
@@ -139,7 +140,7 @@ module _ (m : Meaning) (s : SiteSettings) (a : Action) (xs : Columns) (ms : List
       let k : Call = Enter a.from a.carry in
       let none = silent (refusal (site m s xs ms) k) (clear k 4 (λ x. (
         λ h. h r.from_ground,
-        (λ h. h r.joined, (λ h. h (r.entry_free refl), (λ h. omega (arith, h, r.room_left refl), tt))),
+        (λ h. h r.joined, (λ h. h (r.entry_free refl), (λ h. let w = no_longer (λ c. robot (state_at xs c)) m.columns h.columns h.different h.with_robots in omega (arith, h.many, w, r.room_left refl), tt))),
       )) (decided (site m s xs ms) law k)) in
       let placed = placed_one a a.start xs (Busy (Entering a.carry) (duration_of s.times Entry a.carry))
       (from_within Entry r) r.one_column (faced Entry e r a.from true at_from) in
@@ -299,7 +300,7 @@ module _ (m : Meaning) (s : SiteSettings) (a : Action) (xs : Columns) (ms : List
               λ h. h r.joined,
               (
                 λ h. h (r.to_free n),
-                (λ h. h (omega (arith, r.written.0, r.written.1.0, r.written.1.1), omega (arith, r.written.1.0, r.to_level)), tt),
+                (λ h. h (omega (arith, r.written.0, r.written.1.0, r.written.1.1), omega (arith, r.written.1.0, r.to_level.room (inr refl))), tt),
               ),
             ),
           ),

@@ -11,8 +11,7 @@ use Rattle.gate.specs.Column.{robot}
 use Rattle.gate.specs.Scene.{Columns, robots, state_at}
 use Rattle.gate.specs.Scene.{height_at as height_in}
 use Rattle.plan.specs.Plan.{Action, Runs, Starts, Touches, height_at, line, no_action, runs}
-use Rattle.plan.specs.Lines.{top}
-use Rattle.plan.specs.Rules.{Joined, Loaded, OneColumn, Written}
+use Rattle.plan.specs.Rules.{Joined, LevelFits, Loaded, OneColumn, Written}
 use Rattle.plan.proofs.Searches.{decides_runs}
 use Rattle.play.specs.Shown.{Holder}
 use Rattle.play.specs.Shown.Holder.{by_running, by_ended}
@@ -29,7 +28,7 @@ pub record Ready (m : Meaning) (s : SiteSettings) (a : Action) (w : Work) (xs : 
   pub two_columns : TwoColumns w a.from a.to
   pub from_ground : a.from < m.columns
   pub to_ground : a.to < m.columns
-  pub to_level : top w a.to_height < s.levels
+  pub to_level : LevelFits s w a.to_height
   pub lasts : a.end ≡ a.start + duration_of s.times w a.carry
   pub written : Written w a.from_height a.to_height (height_in xs a.from) (height_in xs a.to)
   pub size : length xs ≡ m.columns

@@ -1,3 +1,6 @@
 pub mod Whole
 pub mod Reasoned
 pub mod Numbers
+pub mod Justified
+pub mod Laid
+pub mod Written

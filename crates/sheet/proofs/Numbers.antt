@@ -6,11 +6,11 @@ use Rattle.std.proofs.lemmas.Str.Parse.{IsNumeralModel, numerals_by_fold, tells_
 use Rattle.std.proofs.lemmas.Bool.{cases_lt, eq-eqb, eqb-true, le-leb, leb-true, ne_eqb}
 use Rattle.sheet.specs.Fields.{Shows, digits, number_in, plain, unspaced}
 
-abbrev read_on : ℕ → List ℕ → ℕ
+abbrev pub read_on : ℕ → List ℕ → ℕ
 read_on n [] = n
 read_on n (c ∷ cs) = read_on (n * 10 + (c - 48)) cs
 
-own : IsNumeralModel (λ ds. all_ascii_digits ds ≡ true) (read_on 0)
+pub own : IsNumeralModel (λ ds. all_ascii_digits ds ≡ true) (read_on 0)
 own = numerals_by_fold _ tells_all_ascii_digits read_on (search rules)
 
 digits_all : (n : ℕ) (ds : List ℕ) → digits n ds ≡ cond (all_ascii_digits ds) (Some (read_on n ds)) None
@@ -47,7 +47,7 @@ joins (b ∷ []) h f = refl
 joins (b ∷ c ∷ bs) h f = ap (λ (t : Bool). cond t None (digits 0 (b ∷ c ∷ bs))) (ne_eqb b 48 (λ e. omega (arith, f e)))
 
 -- spaces in front, and the rest
-split : (bs : List ℕ) → (k : ℕ) × (bs ≡ replicate k 32 ++ unspaced bs)
+pub split : (bs : List ℕ) → (k : ℕ) × (bs ≡ replicate k 32 ++ unspaced bs)
 split [] = (0, refl)
 split (b ∷ bs) = go (eqb b 32) refl (split bs)
   where
@@ -55,7 +55,7 @@ split (b ∷ bs) = go (eqb b 32) refl (split bs)
     go true e p = let h : b ≡ 32 = eqb-true b 32 (sym e) in let q = p.1 in (suc p.0, cc)
     go false e p = (0, refl)
 
-unspaced_text : (k : ℕ) (ds : List ℕ) → (get_or ds 0 0 ≡ 32 → ⊥) → unspaced (replicate k 32 ++ ds) ≡ ds
+pub unspaced_text : (k : ℕ) (ds : List ℕ) → (get_or ds 0 0 ≡ 32 → ⊥) → unspaced (replicate k 32 ++ ds) ≡ ds
 unspaced_text zero [] f = refl
 unspaced_text zero (b ∷ bs) f = ap (λ (t : Bool). cond t (unspaced bs) (b ∷ bs)) (ne_eqb b 32 f)
 unspaced_text (suc k) ds f = unspaced_text k ds f
@@ -69,14 +69,14 @@ unspaced_le (b ∷ bs) = go (eqb b 32) (unspaced_le bs)
     go false h = omega arith
 
 -- the first digit of a number: 0 alone, else above 0
-first_digit : (n : ℕ) → n < 10 ^ 9 → (48 ≤ get_or (decimal n) 0 0) × (get_or (decimal n) 0 0 ≡ 48 → length (decimal n) ≡ 1)
+pub first_digit : (n : ℕ) → n < 10 ^ 9 → (48 ≤ get_or (decimal n) 0 0) × (get_or (decimal n) 0 0 ≡ 48 → length (decimal n) ≡ 1)
 first_digit n small =
     ⊎_elim
     (λ one. let e = decimal_digit n one in let f : get_or (decimal n) 0 0 ≡ 48 + n = ap (λ (l : List ℕ). get_or l 0 0) e in (omega arith, λ _. ap length e))
     (λ more. let f = first_decimal n (omega arith) (omega arith) in (omega arith, λ e. absurd (omega arith)))
     (cases_lt n 10)
 
-number_shows : (bs : List ℕ) (n : ℕ) → number_in bs ≡ Some n → Shows bs n
+pub number_shows : (bs : List ℕ) (n : ℕ) → number_in bs ≡ Some n → Shows bs n
 number_shows bs n e = go (leb (length bs) 9) refl e
   where
     go : (t : Bool) → t ≡ leb (length bs) 9 → cond t (plain (unspaced bs)) None ≡ Some n → Shows bs n
@@ -91,7 +91,7 @@ number_shows bs n e = go (leb (length bs) 9) refl e
         let s = split bs in
         record { narrow = narrow; small = omega (arith, v.1); spaces = s.0; text = s.1 ∙ ap (λ (t : List ℕ). replicate s.0 32 ++ t) (sym d ∙ ap decimal v.1) }
 
-shows_number : (bs : List ℕ) (n : ℕ) → Shows bs n → number_in bs ≡ Some n
+pub shows_number : (bs : List ℕ) (n : ℕ) → Shows bs n → number_in bs ≡ Some n
 shows_number bs n w =
     let small : n < 10 ^ 9 = w.small in
     let f = first_digit n small in

@@ -28,7 +28,7 @@ sheet_decides sheet =
     back (BadSheet.cut_short e) = inr (inl e)
     back (BadSheet.too_long e) = inr (inr e)
 
-printable_decides : (bs : List ℕ) → Decides (printable bs) (Printable bs)
+pub printable_decides : (bs : List ℕ) → Decides (printable bs) (Printable bs)
 printable_decides bs =
     Decides-by_and plain_byte (λ b. (32 ≤ b) × (b ≤ 126)) printable (λ b. Decides-and (leb 32 b) (leb b 126) (decides_leb 32 b) (decides_leb b 126)) refl (λ _ _. refl) bs
 

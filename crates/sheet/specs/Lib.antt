@@ -5,3 +5,4 @@ pub mod Kinds
 pub mod Reading
 pub mod View
 pub mod Reasons
+pub mod Written

@@ -7,6 +7,7 @@ ghost use Rattle.sheet.specs.Kinds.{line_tests};
 ghost use Rattle.sheet.specs.Lines.{record_in};
 ghost use Rattle.sheet.specs.Reasons.{reading_reasons};
 ghost use Rattle.sheet.specs.View.{sheet_of, records_in};
+ghost use Rattle.sheet.specs.Written.{ReadsAsWritten};
 ghost use Rattle.sheet.specs.Reading.{goal_fits, place_tests, goals_of, acts_of, Small, bad_sheet, lines_in, reading_refusal};
 
 use crate::line::read_line;
@@ -100,6 +101,7 @@ pub fn read_sheet<G: Ground>(
 ) -> Result<Sheet, Refusal>
     ensures value { Answers (reading_refusal (G.Ground.meaning ground.now) (settings_of settings.now) sheet.now) (λ s. sheet_of s ≡ records_in sheet.now) result }
     ensures words { Settles (reading_reasons (G.Ground.meaning ground.now) (settings_of settings.now) sheet.now) (refusal_in result) }
+    ensures shows { ReadsAsWritten }
 {
     let lines = lines_of(sheet).ok_or(Rule::SheetShape)?;
     let Room { targets, acts } = room;

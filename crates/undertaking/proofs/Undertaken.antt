@@ -1,20 +1,23 @@
 -- The undertaking, of every lawful ground, all settings and every list of calls. Assumes nothing.
-use Rattle.std.proofs.Common.{◌≡◌, ℕ, ◌≤◌, List, [], ◌∷◌, None, sym, refl, ap, ◌∙◌, subst, arith}
+use Rattle.std.specs.List.{AllByRecursion}
+use Rattle.std.proofs.Common.{◌≡◌, ℕ, ◌<◌, ◌≤◌, List, [], ◌∷◌, None, sym, refl, ap, ◌∙◌, subst, arith}
 use Rattle.terms.specs.Durations.{SiteSettings}
 use Rattle.ground.specs.Meaning.{Meaning, Lawful}
 use Rattle.ways.specs.Way.{Relief, Way}
 use Rattle.gate.specs.declared.call.Call.{Call}
 use Rattle.gate.specs.declared.call.Call.TheVariants.{Enter, Move, Lay, Lift, Leave, Tick, Recall}
-use Rattle.gate.specs.Scene.{Columns, Scene, blocks_standing, blocks_carried, opened}
+use Rattle.gate.specs.Column.{robot}
+use Rattle.gate.specs.Scene.{Columns, Scene, state_at, blocks_standing, blocks_carried, opened}
 use Rattle.gate.specs.Scene.{relief as relief_of}
 use Rattle.gate.specs.Gate.{refusal}
 use Rattle.gate.specs.Gate.{step as scene_step}
 use Rattle.gate.specs.Recall.{recall, Homeward}
+use Rattle.gate.proofs.Crews.{no_longer}
 use Rattle.gate.proofs.Deciding.{performed}
 use Rattle.gate.proofs.Recalling.{recall_rightly}
 use Rattle.undertaking.specs.Runs.{reply, replies, Relates, Does, brought_by as brought_of, out_by as scene_out, toil_of as toiled, building_of as built_by}
 use Rattle.undertaking.specs.Runs.{run as run_of, tally as tally_of}
-use Rattle.undertaking.specs.Obeying.{Empty, Holds, Toll, Obeyed as ObeyedOf}
+use Rattle.undertaking.specs.Obeying.{Empty, Robot, Holds, Toll, Obeyed as ObeyedOf}
 use Rattle.gate.specs.Time.{Quiet, after_ticks as after_ticks_of}
 use Rattle.undertaking.specs.Lasting.{Lasts}
 use Rattle.undertaking.specs.Undertaking.{Reads, Bounds, Undertaking}
@@ -22,6 +25,7 @@ use Rattle.undertaking.proofs.Plain.{Proper, opening, relief, run, tally, toll, 
 use Rattle.undertaking.proofs.Plain.{step}
 use Rattle.undertaking.proofs.Kept.{Kept}
 use Rattle.undertaking.proofs.Calls.{kept_opening, kept_step, kept_run, kept_ticks, sound_kept}
+use Rattle.undertaking.proofs.Allowed.{robot_within}
 use Rattle.undertaking.proofs.Apart.{apart}
 use Rattle.undertaking.proofs.Ends.{ends}
 use Rattle.undertaking.proofs.Due.{toll_due, quiet_calm}
@@ -55,12 +59,16 @@ module _ (m : Meaning) (s : SiteSettings) (law : Lawful m) (ok : Proper s) where
       let P : Scene → Type 0 = λ v. Does v ks (replies v ks) (run_of v ks) in
       (scene_step (scene m s xs) a, relates xs k a, subst P (sym (step_scene m s law ok xs k a)) (does ks (step m s xs a) (kept_step m s law ok xs k a)))
 
+  on_ground : (xs : Columns) → Kept m s xs → (rs : List ℕ) → AllByRecursion (Robot xs) rs → AllByRecursion (λ c. (c < m.columns) × Robot xs c) rs
+  on_ground xs k [] h = tt
+  on_ground xs k (c ∷ cs) h = ((robot_within m s law ok xs k c h.0, h.0), on_ground xs k cs h.1)
+
   bounds : (xs : Columns) → Kept m s xs → Bounds (scene m s xs)
   bounds xs k =
       record {
         low = λ c. (k.fits c).low;
         border_flat = λ c. (k.fits c).flat;
-        not_full = k.not_full;
+        not_full = λ rs r h. let w = no_longer (λ c. robot (state_at xs c)) m.columns rs r (on_ground xs k rs h) in omega (arith, w, k.not_full);
         ways_home = λ c r. let w = k.ways c r in (w.0, home_of xs k w.1);
       }
 

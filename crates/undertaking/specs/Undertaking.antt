@@ -1,13 +1,15 @@
 -- What is undertaken of every site that was opened and only called, in the subject's words. Assumes nothing.
-use Rattle.std.specs.Prelude.{◌≡◌, ℕ, ◌+◌, ◌<◌, ◌≤◌, true, ◌⊎◌, List, ◌≢◌}
+use Rattle.std.specs.Prelude.{◌≡◌, ℕ, ◌+◌, ◌<◌, ◌≤◌, true, ◌⊎◌, List, length, ◌≢◌}
+use Rattle.std.specs.List.{AllByRecursion}
 use Rattle.terms.specs.Durations.{SiteSettings}
 use Rattle.ground.specs.Meaning.{Meaning}
+use Rattle.ground.specs.Rises.{Rising}
 use Rattle.ways.specs.Way.{Way}
 use Rattle.ways.specs.View.{marked}
 use Rattle.gate.specs.declared.call.Call.{Call}
 use Rattle.gate.specs.declared.column.Part.TheVariants.{Laying, Lifting}
 use Rattle.gate.specs.declared.column.State.TheVariants.{Free, Busy}
-use Rattle.gate.specs.Scene.{Columns, Scene, height_at, state_at, relief, robots, blocks_standing, blocks_carried, opened}
+use Rattle.gate.specs.Scene.{Columns, Scene, height_at, state_at, relief, blocks_standing, blocks_carried, opened}
 use Rattle.undertaking.specs.Runs.{Reply, run, replies, Does, tally, brought_by, out_by, toil_of, building_of}
 use Rattle.undertaking.specs.Obeying.{Robot, Empty, Holds, Toll, Obeyed}
 use Rattle.gate.specs.Time.{Quiet, after_ticks}
@@ -27,7 +29,8 @@ pub record Reads (v : Scene) : Type 0 where
 pub record Bounds (v : Scene) : Type 0 where
   pub low : (c : ℕ) → height_at v.columns c < v.settings.levels
   pub border_flat : (c : ℕ) → v.meaning.border c ≡ true → height_at v.columns c ≡ 0
-  pub not_full : robots v.meaning v.columns ≤ v.settings.robots
+  -- robots at different columns are never more than the most robots
+  pub not_full : (rs : List ℕ) → Rising 0 rs → AllByRecursion (Robot v.columns) rs → length rs ≤ v.settings.robots
   pub ways_home : (c : ℕ) → Robot v.columns c → (n : ℕ) × Way v.meaning (relief v) c n
 
 -- of the calls from the opening, their answers, and the site v after them

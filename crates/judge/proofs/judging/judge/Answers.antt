@@ -9,7 +9,8 @@ use Rattle.ground.specs.Meaning.{Meaning}
 use Rattle.sheet.specs.View.{Records, records_in, sheet_of}
 use Rattle.plan.specs.Judged.{Timed}
 use Rattle.plan.specs.Plan.{Action as Step}
-use Rattle.plan.specs.Rules.{written_plan, target_of}
+use Rattle.plan.specs.Rules.{LinesStand, written_plan, target_of}
+use Rattle.plan.proofs.Standing.{lines_stand}
 use Rattle.judge.specs.Judging.{end_tests, judging_refusal}
 use Rattle.judge.specs.Reasons.{judging_reasons}
 use Rattle.judge.specs.Verdict.{Accepts, Keeps}
@@ -23,8 +24,8 @@ Accepting sheet a = Accepts (records_in sheet) a
 
 -- what is answered, in words and by the rules
 verdict : (m : Meaning) (s : SiteSettings) (sheet : List ℕ) → Timed s → (r : Result Accepted Refusal) → Answers (judging_refusal m s sheet) (Accepting sheet) r
-    → record { value : Answers (judging_refusal m s sheet) (Accepting sheet) r; words : Settles (judging_reasons m s sheet) (refusal_in r); rules : Decides (is_ok r) (Keeps m s sheet) }
-verdict m s sheet t r e = record { value = e; words = in_words m s sheet (Accepting sheet) r e; rules = decides_keeps m s sheet t (Accepting sheet) r e }
+    → record { value : Answers (judging_refusal m s sheet) (Accepting sheet) r; words : Settles (judging_reasons m s sheet) (refusal_in r); rules : Decides (is_ok r) (Keeps m s sheet); lines : LinesStand }
+verdict m s sheet t r e = record { value = e; words = in_words m s sheet (Accepting sheet) r e; rules = decides_keeps m s sheet t (Accepting sheet) r e; lines = lines_stand }
 
 -- the sheet's end, of the same plan
 ended : (m : Meaning) (r : Records) {p q : List Step} → p ≡ q → first_of (end_tests m q (target_of r.targets) r.lines) ≡ first_of (end_tests m p (target_of r.targets) r.lines)

@@ -8,6 +8,7 @@ use Rattle.ground.proofs.Crowds.{crowded_within, not_crowded}
 use Rattle.ground.proofs.Makes.{means_lists, rows_lawful, rows_tell}
 use Rattle.ground.proofs.Ordered.{decides_border, decides_order, listing_settles}
 use Rattle.ground.proofs.Refuses.{refuse_border, refuse_crowd, refuse_none, refuse_order}
+use Rattle.ground.proofs.Told.{is_listed}
 use Rattle.ground.proofs.listed.Listed.new.Goals as goal
 
 pub returns-then-not-is_border_list-clause-words : goal.returns-then-not-is_border_list-clause-words
@@ -93,3 +94,14 @@ returns-clause-words c =
     let full : Filled border (λ d. flat_map (other d) ks) rows = search rules in
     let e = refuse_none n border ks fits up (not_crowded n border ks rows list.high full) in
     subst (Settles (listing_reasons n border ks)) e (listing_settles n border ks)
+
+pub returns-clause-means : goal.returns-clause-means
+returns-clause-means c =
+    let n = c.args.columns in
+    let border = c.args.border.now in
+    let ks = c.args.links.now in
+    let rows = c.in_ok-rows.rows in
+    let list = (decides_border n border).0 (sym c.is_border_list.ensures ∙ c.if-not-is_border_list.false) in
+    let up = sym c.is_link_list.ensures ∙ c.if-not-is_link_list.false in
+    let full : Filled border (λ d. flat_map (other d) ks) rows = search rules in
+    is_listed n border ks _ (means_lists n border ks rows list up full)
