@@ -1,15 +1,10 @@
 -- A line of 35 bytes is its word, its thirty bytes of fields and a newline; and the fields are cut one after another. Assumes nothing.
-use Rattle.std.proofs.Common.{◌≡◌, ℕ, ◌+◌, ◌≤◌, Bool, true, false, cond, ◌&&◌, eqb, List, [], ◌∷◌, ◌++◌, length, get_or, take, drop, codes, Some, None, sym, refl, ap, ◌∙◌, arith, length-drop, length-take}
+use Rattle.std.proofs.Common.{◌≡◌, ℕ, ◌+◌, ◌≤◌, Bool, true, false, cond, ◌&&◌, eqb, List, [], ◌∷◌, ◌++◌, length, get_or, take, drop, Some, None, sym, refl, ap, ◌∙◌, arith, length-drop, length-take}
 use Rattle.std.proofs.lemmas.Bool.{and_parts, eqb-true}
 use Rattle.std.proofs.lemmas.List.{drop-drop, drop_all, drop_at, drop_more, get_or-drop, take-append-drop, take_at}
 use Rattle.sheet.specs.Lines.{Word, fields, spelt, word, word_in}
 use Rattle.sheet.specs.Records.{part}
-
-abbrev pub word_text : Word → List ℕ
-word_text Word.goal = codes "GOAL"
-word_text Word.act = codes "ACT "
-word_text Word.note = codes "NOTE"
-word_text Word.end = codes "END "
+use Rattle.sheet.specs.Written.{word_text}
 
 spelt_is : (l : List ℕ) (w x y z : ℕ) → 4 ≤ length l → spelt l w x y z ≡ true → take 4 l ≡ w ∷ (x ∷ (y ∷ (z ∷ [])))
 spelt_is [] w x y z h e = absurd (omega arith)
@@ -26,7 +21,7 @@ spelt_is (a ∷ b ∷ c ∷ d ∷ t) w x y z h e =
     let ed : d ≡ z = eqb-true d z r.1 in
     cc
 
-word_is : (l : List ℕ) (v : Word) → 4 ≤ length l → word l ≡ Some v → take 4 l ≡ word_text v
+pub word_is : (l : List ℕ) (v : Word) → 4 ≤ length l → word l ≡ Some v → take 4 l ≡ word_text v
 word_is l v h e = go (spelt l 71 79 65 76) (spelt l 65 67 84 32) (spelt l 78 79 84 69) (spelt l 69 78 68 32) refl refl refl refl e
   where
     done : (y : Word) → take 4 l ≡ word_text y → y ≡ v → take 4 l ≡ word_text v

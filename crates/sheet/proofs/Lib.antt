@@ -3,4 +3,5 @@ pub mod Reasoned
 pub mod Numbers
 pub mod Justified
 pub mod Laid
+pub mod Readable
 pub mod Written

@@ -12,9 +12,11 @@ use Rattle.sheet.specs.Fields.{blank, flag, letter_in, number_in, place_in}
 use Rattle.sheet.specs.Lines.{Word, bad_shape, fields, misshapen, printable, read, record_in, shown, word_in}
 use Rattle.sheet.specs.Reasons.{Printable}
 use Rattle.sheet.specs.Records.{act_in, end_in, field, goal_in, part}
-use Rattle.sheet.specs.Written.{FitsLine, ReadsAsWritten, Written, carry_text, letter_text, place_text, right}
+use Rattle.sheet.specs.Written.{FitsLine, Written, carry_text, letter_text, place_text, right, word_text}
+use Rattle.sheet.specs.Readable.{ReadsAsWritten}
 use Rattle.sheet.proofs.Justified.{blank_is, carry_right, is_blank, length_carry, length_letter, length_place, length_right, letter_right, narrow, number_right, place_right, right_carry, right_letter, right_number, right_place}
-use Rattle.sheet.proofs.Laid.{cut, here, length_fields, length_part, next, pieces, put_together, word_text}
+use Rattle.sheet.proofs.Laid.{cut, here, length_fields, length_part, next, pieces, put_together}
+use Rattle.sheet.proofs.Readable.{first_unread, worded}
 use Rattle.sheet.proofs.Reasoned.{printable_decides}
 
 -- what the fields of a line show, by what each shows
@@ -386,4 +388,4 @@ writes n l r (Written.note text long p e) = note_written n l text long p e
 writes n l r (Written.end k lk e) = end_written n l k lk e
 
 pub reads_as_written : ReadsAsWritten
-reads_as_written = record { read = reads; written = writes }
+reads_as_written = record { words = worded; read = reads; written = writes; unread = first_unread }

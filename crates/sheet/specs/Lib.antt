@@ -6,3 +6,4 @@ pub mod Reading
 pub mod View
 pub mod Reasons
 pub mod Written
+pub mod Readable

@@ -7,8 +7,15 @@ use Rattle.sheet.specs.declared.record.Place.{Place}
 use Rattle.sheet.specs.declared.record.Place.TheVariants.{Outside, At}
 use Rattle.sheet.specs.declared.record.Record.{Record}
 use Rattle.sheet.specs.declared.record.Record.TheVariants.{Goal, Act, Note, End}
-use Rattle.sheet.specs.Lines.{record_in, bad_shape}
+use Rattle.sheet.specs.Lines.{Word}
 use Rattle.sheet.specs.Reasons.{Printable}
+
+-- the four words
+abbrev pub word_text : Word → List ℕ
+word_text Word.goal = codes "GOAL"
+word_text Word.act = codes "ACT "
+word_text Word.note = codes "NOTE"
+word_text Word.end = codes "END "
 
 -- a text to the right of a field of w bytes
 abbrev pub right : ℕ → List ℕ → List ℕ
@@ -51,8 +58,3 @@ pub data Written (n : ℕ) (l : List ℕ) : Record → Type 0 where
       → Written n l (Act a)
   note : (text : List ℕ) → length text ≡ 30 → Printable text → l ≡ codes "NOTE" ++ (text ++ (10 ∷ [])) → Written n l Note
   end : (k : ℕ) → k < 10 ^ 6 → l ≡ codes "END " ++ (right 6 (decimal k) ++ (replicate 24 32 ++ (10 ∷ []))) → Written n l (End k)
-
--- a line is read as a record exactly where it is written so
-pub record ReadsAsWritten : Type 0 where
-  pub read : (n : ℕ) (l : List ℕ) → length l ≡ 35 → (r : Record) → bad_shape l ≡ false → record_in n l ≡ Some r → Written n l r
-  pub written : (n : ℕ) (l : List ℕ) (r : Record) → Written n l r → (bad_shape l ≡ false) × (record_in n l ≡ Some r)

@@ -7,7 +7,7 @@ ghost use Rattle.sheet.specs.Kinds.{line_tests};
 ghost use Rattle.sheet.specs.Lines.{record_in};
 ghost use Rattle.sheet.specs.Reasons.{reading_reasons};
 ghost use Rattle.sheet.specs.View.{sheet_of, records_in};
-ghost use Rattle.sheet.specs.Written.{ReadsAsWritten};
+ghost use Rattle.sheet.specs.Readable.{ReadsAsWritten};
 ghost use Rattle.sheet.specs.Reading.{goal_fits, place_tests, goals_of, acts_of, Small, bad_sheet, lines_in, reading_refusal};
 
 use crate::line::read_line;
