@@ -19,7 +19,8 @@ use Rattle.judge.proofs.Silence.{settles_both}
 use Rattle.sheet.specs.View.{records_in}
 use Rattle.job.specs.declared.order.Order.{Order}
 use Rattle.job.specs.Jobs.{first_line, is_job, job_refusal, making_refusal, order, order_tests, sheet_in, sheet_refusal}
-use Rattle.job.specs.Words.{JobLine, after_line, job_reasons, unread_field}
+use Rattle.job.specs.OrderLine.{JobLine}
+use Rattle.job.specs.Words.{after_line, job_reasons, unread_field}
 
 or_else_assoc : (a b c : Option Told) → or_else (or_else a b) c ≡ or_else a (or_else b c)
 or_else_assoc None b c = refl

@@ -1,5 +1,5 @@
 -- What the program answers, in words. Assumes nothing.
-use Rattle.std.specs.Prelude.{◌≡◌, ℕ, ◌<◌, List, [], ◌∷◌, ◌++◌, map, length, take, Ok, Err, codes, Result, slice_index_or}
+use Rattle.std.specs.Prelude.{◌≡◌, ℕ, ◌<◌, List, [], ◌∷◌, ◌++◌, map, length, Ok, Err, codes, Result}
 use Rattle.terms.specs.Ranges.{settings_from, settings_reasons}
 use Rattle.terms.specs.Refusals.{Reason, Silent, Speaks, Told, told}
 use Rattle.terms.specs.declared.refusal.Rule.TheVariants.{SheetShape, LineShape, FieldUnreadable, NoWayHome}
@@ -14,12 +14,8 @@ use Rattle.judge.specs.Figures.{Figures}
 use Rattle.judge.specs.Reasons.{judging_reasons}
 use Rattle.job.specs.declared.order.Order.{Order}
 use Rattle.job.specs.Jobs.{first_line, order, sheet_in}
+use Rattle.job.specs.OrderLine.{JobLine}
 use Rattle.job.specs.Replies.{ground_of, plan_in, row, told_row}
-
--- the line begins with JOB and a space, and its byte 35 is a newline
-pub record JobLine (l : List ℕ) : Type 0 where
-  pub newline : slice_index_or l 34 0 ≡ 10
-  pub word : take 4 l ≡ codes "JOB "
 
 -- why no ground or no settings can be made of a job's numbers, and why its sheet is refused
 abbrev pub after_line : Result Order ℕ → List ℕ → List Reason

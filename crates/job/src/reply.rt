@@ -2,6 +2,7 @@
 ghost use Rattle.std.specs.Prelude.{◌≡◌};
 ghost use Rattle.job.specs.Replies.{answered};
 ghost use Rattle.job.specs.Written.{written};
+ghost use Rattle.job.specs.OrderLine.{OrderAsWritten};
 ghost use Rattle.job.specs.Words.{Verdict};
 
 use crate::Desk;
@@ -51,6 +52,7 @@ fn play_out(input: &[u8], judging: Room, playing: PlayRoom) -> Result<Played, St
 pub fn answer(input: &[u8], desk: Desk) -> Vec<u8>
     ensures value { result.items ≡ answered input.now }
     ensures words { Verdict input.now result.items }
+    ensures order { OrderAsWritten }
 {
     let Desk {
         judging,

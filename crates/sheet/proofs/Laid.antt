@@ -38,20 +38,23 @@ word_is l v h e = go (spelt l 71 79 65 76) (spelt l 65 67 84 32) (spelt l 78 79 
 pub length_fields : (l : List ℕ) → length l ≡ 35 → length (fields l) ≡ 30
 length_fields l n = let t = length-take 30 (drop 4 l) in let d = length-drop 4 l in omega arith
 
--- a line with a word and a newline, in three pieces
+-- a line with a newline, in three pieces
+pub three : (l text : List ℕ) → length l ≡ 35 → get_or l 34 0 ≡ 10 → take 4 l ≡ text → l ≡ text ++ (fields l ++ (10 ∷ []))
+three l text n nl e =
+    let last : drop 34 l ≡ 10 ∷ [] =
+    drop_more l 34 0 (omega arith) ∙ ap (λ (t : List ℕ). get_or l 34 0 ∷ t) (drop_all 35 l (omega arith)) ∙ ap (λ (b : ℕ). b ∷ []) nl in
+    sym (take-append-drop 4 l)
+    ∙ ap (λ (t : List ℕ). t ++ drop 4 l) e
+    ∙ ap (λ (t : List ℕ). text ++ t) (sym (take-append-drop 30 (drop 4 l)) ∙ ap (λ (t : List ℕ). fields l ++ t) (drop-drop 30 4 l ∙ last))
+
 pub pieces : (l : List ℕ) (v : Word) → length l ≡ 35 → word_in l ≡ Some v → l ≡ word_text v ++ (fields l ++ (10 ∷ []))
 pieces l v n e = go (eqb (get_or l 34 0) 10) refl e
   where
     go : (b : Bool) → eqb (get_or l 34 0) 10 ≡ b → cond b (word l) None ≡ Some v → l ≡ word_text v ++ (fields l ++ (10 ∷ []))
     go false eb f = cc
-    go true eb f =
-        let last : drop 34 l ≡ 10 ∷ [] =
-        drop_more l 34 0 (omega arith) ∙ ap (λ (t : List ℕ). get_or l 34 0 ∷ t) (drop_all 35 l (omega arith)) ∙ ap (λ (b : ℕ). b ∷ []) (eqb-true (get_or l 34 0) 10 eb) in
-        sym (take-append-drop 4 l)
-        ∙ ap (λ (t : List ℕ). t ++ drop 4 l) (word_is l v (omega arith) f)
-        ∙ ap (λ (t : List ℕ). word_text v ++ t) (sym (take-append-drop 30 (drop 4 l)) ∙ ap (λ (t : List ℕ). fields l ++ t) (drop-drop 30 4 l ∙ last))
+    go true eb f = three l (word_text v) n (eqb-true (get_or l 34 0) 10 eb) (word_is l v (omega arith) f)
 
-at_end : (fs : List ℕ) → length fs ≡ 30 → get_or (fs ++ (10 ∷ [])) 30 0 ≡ 10
+pub at_end : (fs : List ℕ) → length fs ≡ 30 → get_or (fs ++ (10 ∷ [])) 30 0 ≡ 10
 at_end fs n = sym (get_or-drop 30 (fs ++ (10 ∷ [])) 0 0) ∙ ap (λ (l : List ℕ). get_or l 0 0) (drop_at fs (10 ∷ []) 30 n)
 
 -- and back

@@ -32,7 +32,7 @@ worded l long w = (λ e. word_is l w (omega arith) e, λ e. worded_back l w e)
 
 -- ---- fields
 
-none_some : {X : Type 0} {x : X} → None ≡ Some x → ⊥
+pub none_some : {X : Type 0} {x : X} → None ≡ Some x → ⊥
 none_some e = cc
 
 module _ {Y : Type 0} where
@@ -90,7 +90,7 @@ module _ (bs : List ℕ) where
 -- the fields of each kind of line
 module _ (fs : List ℕ) (long : length fs ≡ 30) where
   -- a number six bytes wide, as field i from place a on
-  number_field : {Y : Type 0} (i a : ℕ) → a + 6 ≤ 30 → (go : ℕ → Result Y ℕ) (Q : ℕ → Type 0) → ((n : ℕ) → Faults (go n) Q)
+  pub number_field : {Y : Type 0} (i a : ℕ) → a + 6 ≤ 30 → (go : ℕ → Result Y ℕ) (Q : ℕ → Type 0) → ((n : ℕ) → Faults (go n) Q)
       → Faults (field i (number_in (part a 6 fs)) go) (λ k. ((ShowsNumber 6 (part a 6 fs) → ⊥) × (k ≡ i)) ⊎ (ShowsNumber 6 (part a 6 fs) × Q k))
   number_field i a l go Q more =
       let bs = part a 6 fs in

@@ -107,7 +107,7 @@ act_shown line (Some s) (Some e) (Some fc) (Some fh) (Some b) (Some x) (Some tc)
     }
 
 -- two lists in front of a third
-ahead : (x r t : List ℕ) (u : List ℕ) → r ++ t ≡ u → (x ++ r) ++ t ≡ x ++ u
+pub ahead : (x r t : List ℕ) (u : List ℕ) → r ++ t ≡ u → (x ++ r) ++ t ≡ x ++ u
 ahead x r t u e = append_assoc x r t ∙ ap (λ (y : List ℕ). x ++ y) e
 
 -- thirty bytes that are read, written out
@@ -119,7 +119,7 @@ module _ (fs : List ℕ) (long : length fs ≡ 30) where
       ∙ blank_is (part a n fs) b ∙ ap (λ (k : ℕ). replicate k 32) w
 
   -- one more piece in front
-  piece : (a n : ℕ) (x r : List ℕ) → part a n fs ≡ x → drop (a + n) fs ≡ r → drop a fs ≡ x ++ r
+  pub piece : (a n : ℕ) (x r : List ℕ) → part a n fs ≡ x → drop (a + n) fs ≡ r → drop a fs ≡ x ++ r
   piece a n x r e f = cut fs a n ∙ ap (λ (t : List ℕ). t ++ drop (a + n) fs) e ∙ ap (λ (t : List ℕ). x ++ t) f
 
   goal_text : (c h : ℕ) → number_in (part 0 6 fs) ≡ Some c → number_in (part 6 6 fs) ≡ Some h → blank (part 12 18 fs) ≡ true
@@ -238,10 +238,10 @@ act_reads s e fc fh b x tc th a es ee efc efh eb ex etc eth =
     ∙ ap (λ (y : Option Place). act_by a.line (Some a.start) (Some a.end) (Some a.from.column) (Some a.from.height) (Some a.carry) (Some a.letter) y th) etc
     ∙ ap (λ (y : Option Place). act_by a.line (Some a.start) (Some a.end) (Some a.from.column) (Some a.from.height) (Some a.carry) (Some a.letter) (Some a.to.column) y) eth
 
-length_number : (n : ℕ) → n < 10 ^ 6 → length (right 6 (decimal n)) ≡ 6
+pub length_number : (n : ℕ) → n < 10 ^ 6 → length (right 6 (decimal n)) ≡ 6
 length_number n l = length_right 6 (decimal n) (narrow 6 n (omega arith) l (omega arith))
 
-number_reads : (n : ℕ) → n < 10 ^ 6 → number_in (right 6 (decimal n)) ≡ Some n
+pub number_reads : (n : ℕ) → n < 10 ^ 6 → number_in (right 6 (decimal n)) ≡ Some n
 number_reads n l = right_number 6 n (omega arith) (omega arith) l (omega arith)
 
 -- of a line with these thirty bytes

@@ -1,5 +1,5 @@
 -- Every site that was opened and only called keeps the law of durations. Assumes nothing.
-use Rattle.std.proofs.Common.{◌≡◌, ℕ, zero, suc, pred, ◌-◌, ◌<◌, Bool, ◌≢◌, ◌⊎◌, List, [], ◌∷◌, ◌++◌, Some, None, Option, sym, refl, ap, ◌∙◌, subst, inl, inr, arith}
+use Rattle.std.proofs.Common.{◌≡◌, ℕ, zero, suc, pred, ◌-◌, ◌<◌, Bool, true, false, cond, ◌≢◌, ◌⊎◌, List, [], ◌∷◌, ◌++◌, Some, None, Option, sym, refl, ap, ◌∙◌, subst, inl, inr, arith}
 use Rattle.terms.specs.Durations.{SiteSettings}
 use Rattle.terms.specs.Refusals.{Told}
 use Rattle.ground.specs.Meaning.{Meaning, Lawful}
@@ -15,7 +15,7 @@ use Rattle.gate.specs.Scene.{Columns, Scene, at, height_at, state_at, begin, tic
 use Rattle.gate.specs.Gate.{granted, settle}
 use Rattle.gate.specs.Gate.{step as scene_step}
 use Rattle.undertaking.specs.Runs.{ticks, run as run_of}
-use Rattle.undertaking.specs.Lasting.{Is, UnderWay, Ended, About, Unasked, Builds, lasting, Lasts}
+use Rattle.undertaking.specs.Lasting.{Is, UnderWay, Ended, Takes, About, Unasked, Builds, lasting, Lasts}
 use Rattle.undertaking.proofs.Plain.{Proper, answer, step, run}
 use Rattle.undertaking.proofs.Seen.{Begun}
 use Rattle.undertaking.proofs.Kept.{Kept}
@@ -100,6 +100,19 @@ module _ (m : Meaning) (s : SiteSettings) (law : Lawful m) (ok : Proper s) where
     ended Tick e ks l = tt
     ended Recall e ks l = tt
 
+    takes : (a : Call) → answer m s xs a ≡ None → Takes (scene m s xs) a (lasting (scene m s xs) a)
+    takes (Enter c b) e = refl
+    takes (Move c d) e = go (carries (state_at xs c)) refl
+      where
+        go : (b : Bool) → carries (state_at xs c) ≡ b → Takes (scene m s xs) (Move c d) (move_time s xs c)
+        go true q = inl ((moves_ready m s law ok xs k c d e).stood ∙ ap (λ x. Standing x) q, ap (λ x. cond x s.times.loaded s.times.empty) q)
+        go false q = inr ((moves_ready m s law ok xs k c d e).stood ∙ ap (λ x. Standing x) q, ap (λ x. cond x s.times.loaded s.times.empty) q)
+    takes (Lay c d) e = refl
+    takes (Lift c d) e = refl
+    takes (Leave c) e = refl
+    takes Tick e = tt
+    takes Recall e = tt
+
     -- the site after the grant and more calls, by its columns
     same_run : (a : Call) → answer m s xs a ≡ None → (ks : List Call) → (run_of (scene_step (scene m s xs) a) ks).columns ≡ run m s (granted s xs a) ks
     same_run a e ks =
@@ -182,6 +195,7 @@ module _ (m : Meaning) (s : SiteSettings) (law : Lawful m) (ok : Proper s) where
   pub lasts : (xs : Columns) → Kept m s xs → Lasts (scene m s xs)
   lasts xs k =
       record {
+        takes = λ a e. takes xs k a (sym (same_refusal m s law ok xs k a) ∙ e);
         runs_on = λ a e ks l. let i = sym (same_refusal m s law ok xs k a) ∙ e in
             let P : Columns → Type 0 = λ ys. UnderWay xs a ys (lasting (scene m s xs) a - ticks ks) in
             subst P (sym (same_run xs k a i ks)) (under_way xs k a i ks l);

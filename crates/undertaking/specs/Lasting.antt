@@ -72,8 +72,21 @@ with_block v Recall = false
 abbrev pub lasting : Scene → Call → ℕ
 lasting v k = duration v.settings k (with_block v k)
 
+-- the time of a granted call is that of its work; of a move by whether the robot stands there with a block
+abbrev pub Takes : Scene → Call → ℕ → Type 0
+Takes v (Enter c block) n = n ≡ v.settings.times.entry
+Takes v (Move c d) n =
+    ((state_at v.columns c ≡ Standing true) × (n ≡ v.settings.times.loaded))
+    ⊎ ((state_at v.columns c ≡ Standing false) × (n ≡ v.settings.times.empty))
+Takes v (Lay c d) n = n ≡ v.settings.times.deliver
+Takes v (Lift c d) n = n ≡ v.settings.times.pickup
+Takes v (Leave c) n = n ≡ v.settings.times.leave
+Takes v Tick n = Unit {0}
+Takes v Recall n = Unit {0}
+
 -- of a site and all that may be called from it
 pub record Lasts (v : Scene) : Type 0 where
+  pub takes : (k : Call) → refusal v k ≡ None → Takes v k (lasting v k)
   pub runs_on : (k : Call) → refusal v k ≡ None → (ks : List Call) → ticks ks < lasting v k
       → UnderWay v.columns k (run (step v k) ks).columns (lasting v k - ticks ks)
   pub ends_so : (k : Call) → refusal v k ≡ None → (ks : List Call) → suc (ticks ks) ≡ lasting v k
