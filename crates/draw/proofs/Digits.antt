@@ -28,6 +28,9 @@ three n low high =
 in_three : List ℕ → List ℕ
 in_three l = replicate (3 - length l) 32 ++ drop (length l - 3) l
 
+right_three : List ℕ → List ℕ
+right_three l = replicate (3 - length l) 32 ++ l
+
 cell_from : (n a b : ℕ) → cond (nat_le 100 n) (48 + n / 100) 32 ≡ a → cond (nat_le 10 n) (48 + n / 10 % 10) 32 ≡ b → a ∷ b ∷ (48 + n % 10) ∷ [] ≡ cell n
 cell_from n a b p q = cc
 
@@ -38,4 +41,14 @@ cell_justified n high =
     ⊎_elim (λ h. ap in_three (one n h) ∙ cell_from n 32 32 (spaced 100 n _ (omega arith)) (spaced 10 n _ h))
     (λ h1. ⊎_elim (λ h. ap in_three (two n h1 h) ∙ cell_from n 32 _ (spaced 100 n _ h) (shows 10 n _ h1))
     (λ h2. ap in_three (three n h2 (omega arith)) ∙ cell_from n _ _ (shows 100 n _ h2 ∙ ap (λ (k : ℕ). 48 + k) small) (shows 10 n _ h1)) (cases_lt n 100))
+    (cases_lt n 10)
+
+-- and stands to the right of them
+pub cell_right : (n : ℕ) → n < 256 → replicate (3 - length (decimal n)) 32 ++ decimal n ≡ cell n
+unfolding right_three
+cell_right n high =
+    let small : n / 100 ≡ n / 100 % 10 = omega arith in
+    ⊎_elim (λ h. ap right_three (one n h) ∙ cell_from n 32 32 (spaced 100 n _ (omega arith)) (spaced 10 n _ h))
+    (λ h1. ⊎_elim (λ h. ap right_three (two n h1 h) ∙ cell_from n 32 _ (spaced 100 n _ h) (shows 10 n _ h1))
+    (λ h2. ap right_three (three n h2 (omega arith)) ∙ cell_from n _ _ (shows 100 n _ h2 ∙ ap (λ (k : ℕ). 48 + k) small) (shows 10 n _ h1)) (cases_lt n 100))
     (cases_lt n 10)

@@ -1,12 +1,15 @@
 -- The drawing, place by place. Assumes nothing.
-use Rattle.std.proofs.Common.{◌≡◌, ℕ, zero, suc, ◌+◌, ◌-◌, ◌*◌, ◌/◌, ◌%◌, ◌<◌, ◌≤◌, ◌⊎◌, List, [], ◌∷◌, ◌++◌, length, get_or, take, drop, sym, refl, ap, ◌∙◌, subst, inl, inr, ⊎_elim, arith, length-drop, length-take}
+use Rattle.std.proofs.Common.{◌≡◌, ℕ, zero, suc, ◌+◌, ◌-◌, ◌*◌, ◌/◌, ◌%◌, ◌<◌, ◌≤◌, ◌⊎◌, List, [], ◌∷◌, ◌++◌, length, get_or, take, drop, replicate, decimal, sym, refl, ap, ◌∙◌, subst, inl, inr, ⊎_elim, arith, length-drop, length-take}
 use Rattle.std.specs.List.{flat_map}
 use Rattle.std.proofs.lemmas.Bool.{cases_lt}
 use Rattle.std.proofs.lemmas.List.{append_assoc, drop-drop, drop_at, get_or-take, get_or-drop}
-use Rattle.draw.specs.Places.{justified}
 use Rattle.draw.specs.Rows.{Draws, cell, row_text, text}
-use Rattle.draw.proofs.Digits.{cell_justified}
+use Rattle.draw.proofs.Digits.{cell_right}
 use Rattle.draw.proofs.Texts.{length_cells, length_row, length_text, text_more}
+
+-- a height in decimal, to the right of three places
+abbrev right_three : ℕ → List ℕ
+right_three h = replicate (3 - length (decimal h)) 32 ++ decimal h
 
 -- each height is a byte
 abbrev pub Bytes : List ℕ → Type 0
@@ -37,7 +40,7 @@ module _ (hs : List ℕ) (bytes : Bytes hs) where
   whole : 0 < length hs → text hs ≡ flat_map cell row ++ ((10 ∷ []) ++ text rest)
   whole l = text_more hs l ∙ append_assoc (flat_map cell row) (10 ∷ []) (text rest)
 
-  first_places : (i : ℕ) → i < length hs → i < 16 → take 3 (drop (3 * i + i / 16) (text hs)) ≡ justified 3 (get_or hs i 0)
+  first_places : (i : ℕ) → i < length hs → i < 16 → take 3 (drop (3 * i + i / 16) (text hs)) ≡ right_three (get_or hs i 0)
   first_places i l low =
       let e : 3 * i + i / 16 ≡ 3 * i = omega arith in
       let n = length-take 16 hs in
@@ -45,7 +48,7 @@ module _ (hs : List ℕ) (bytes : Bytes hs) where
       ∙ ap (λ (t : List ℕ). take 3 (drop (3 * i) t)) (whole (omega arith))
       ∙ in_row row ((10 ∷ []) ++ text rest) i (omega arith)
       ∙ ap cell (get_or-take 16 hs i 0 low)
-      ∙ sym (cell_justified (get_or hs i 0) (bytes i l))
+      ∙ sym (cell_right (get_or hs i 0) (bytes i l))
 
   first_end : (i : ℕ) → i < length hs → i < 16 → (i % 16 ≡ 15) ⊎ (suc i ≡ length hs) → get_or (text hs) (3 * i + i / 16 + 3) 0 ≡ 10
   first_end i l low q =
@@ -60,14 +63,14 @@ module _ (hs : List ℕ) (bytes : Bytes hs) where
   full : 16 < length hs → length (row_text row) ≡ 49
   full l = let n = length-take 16 hs in omega (arith, length_row row)
 
-  next_places : (j : ℕ) → 16 + j < length hs → take 3 (drop (3 * j + j / 16) (text rest)) ≡ justified 3 (get_or rest j 0)
-      → take 3 (drop (3 * (16 + j) + (16 + j) / 16) (text hs)) ≡ justified 3 (get_or hs (16 + j) 0)
+  next_places : (j : ℕ) → 16 + j < length hs → take 3 (drop (3 * j + j / 16) (text rest)) ≡ right_three (get_or rest j 0)
+      → take 3 (drop (3 * (16 + j) + (16 + j) / 16) (text hs)) ≡ right_three (get_or hs (16 + j) 0)
   next_places j l ih =
       let e : 3 * (16 + j) + (16 + j) / 16 ≡ 49 + (3 * j + j / 16) = omega arith in
       ap (λ (k : ℕ). take 3 (drop k (text hs))) e
       ∙ ap (λ (t : List ℕ). take 3 (drop (49 + (3 * j + j / 16)) t)) (text_more hs (omega arith))
       ∙ ap (take 3) (behind (row_text row) (text rest) 49 (full (omega arith)) (3 * j + j / 16))
-      ∙ ih ∙ ap (justified 3) (get_or-drop 16 hs j 0)
+      ∙ ih ∙ ap right_three (get_or-drop 16 hs j 0)
 
   next_end : (j : ℕ) → 16 + j < length hs → get_or (text rest) (3 * j + j / 16 + 3) 0 ≡ 10 → get_or (text hs) (3 * (16 + j) + (16 + j) / 16 + 3) 0 ≡ 10
   next_end j l ih =
@@ -82,7 +85,7 @@ module _ (hs : List ℕ) (bytes : Bytes hs) where
 
 -- of at most k heights
 abbrev Places : List ℕ → ℕ → Type 0
-Places hs i = take 3 (drop (3 * i + i / 16) (text hs)) ≡ justified 3 (get_or hs i 0)
+Places hs i = take 3 (drop (3 * i + i / 16) (text hs)) ≡ right_three (get_or hs i 0)
 
 abbrev Ends : List ℕ → ℕ → Type 0
 Ends hs i = get_or (text hs) (3 * i + i / 16 + 3) 0 ≡ 10

@@ -1,10 +1,9 @@
 -- The drawing of heights: sixteen to a row, three places each, a newline after each row. Assumes nothing.
-use Rattle.std.specs.Prelude.{◌≡◌, ℕ, zero, suc, ◌+◌, ◌*◌, ◌/◌, ◌%◌, ◌<◌, cond, ◌⊎◌, List, [], ◌∷◌, ◌++◌, length, take, drop, Ok, Err, Option, Result, nat_le, nat_lt, slice_index}
+use Rattle.std.specs.Prelude.{◌≡◌, ℕ, zero, suc, ◌+◌, ◌-◌, ◌*◌, ◌/◌, ◌%◌, ◌<◌, cond, ◌⊎◌, List, [], ◌∷◌, ◌++◌, length, take, drop, Ok, Err, Option, Result, decimal, nat_le, nat_lt, replicate, slice_index}
 use Rattle.std.specs.List.{flat_map}
 use Rattle.terms.specs.Refusals.{Told, first_of, told}
 use Rattle.terms.specs.declared.refusal.Refusal.{Refusal}
 use Rattle.terms.specs.declared.refusal.Rule.TheVariants.{BufferShort}
-use Rattle.draw.specs.Places.{justified}
 
 -- a height in three places, justified to the right
 abbrev pub cell : ℕ → List ℕ
@@ -24,10 +23,12 @@ rows_by (suc k) (h ∷ hs) = row_text (take 16 (h ∷ hs)) ++ rows_by k (drop 16
 unfoldable pub text : List ℕ → List ℕ
 text hs = rows_by (length hs) hs
 
--- the bytes bs draw heights, place by place: three places for each, and a newline behind each sixteenth and behind the last
+-- the bytes bs draw heights, place by place: each in decimal, to the right of three places, and a newline behind each sixteenth and
+-- behind the last
 pub record Draws (hs bs : List ℕ) : Type 0 where
   pub size : length bs ≡ 3 * length hs + (length hs + 15) / 16
-  pub places : (i : ℕ) → i < length hs → take 3 (drop (3 * i + i / 16) bs) ≡ justified 3 (slice_index hs i)
+  pub places : (i : ℕ) → i < length hs 
+      → take 3 (drop (3 * i + i / 16) bs) ≡ replicate (3 - length (decimal (slice_index hs i))) 32 ++ decimal (slice_index hs i)
   pub row_end : (i : ℕ) → i < length hs → (i % 16 ≡ 15) ⊎ (suc i ≡ length hs) → slice_index bs (3 * i + i / 16 + 3) ≡ 10
 
 -- the buffer is shorter than the drawing

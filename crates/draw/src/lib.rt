@@ -1,7 +1,7 @@
 // Numbers in so many places, and the drawing of heights into a buffer.
 #![tactic(auto)]
 
-ghost use Rattle.std.specs.Prelude.{◌≡◌, ◌+◌, ◌*◌, ◌/◌, ◌<◌, ◌≤◌, ◌++◌, length, take, drop, IfOk, IfErr};
+ghost use Rattle.std.specs.Prelude.{◌≡◌, ◌+◌, ◌-◌, ◌*◌, ◌/◌, ◌<◌, ◌≤◌, ◌++◌, length, take, drop, replicate, decimal, IfOk, IfErr};
 ghost use Rattle.terms.specs.Refusals.{Answers};
 ghost use Rattle.terms.specs.declared.refusal.Rule.TheVariants.{BufferShort};
 ghost use Rattle.draw.specs.Rows.{Draws, buffered, draw_refusal, row_text, text};
@@ -11,7 +11,8 @@ use terms::{Refusal, Rule};
 
 // A number in decimal, justified to the right in N places: of a longer one the last N digits.
 pub fn justified<const N: usize>(n: u64) -> [u8; N]
-    ensures { result ≡ justified N n }
+    ensures value { result ≡ justified N n }
+    ensures words { length (decimal n) ≤ N → result ≡ replicate (N - length (decimal n)) 32 ++ decimal n }
 {
     let mut buffer = itoa::Buffer::new();
     let digits = buffer.format(n).as_bytes();

@@ -137,7 +137,7 @@ faults : (fs : List ℕ) → length fs ≡ 30 → Faults (order_in fs) (FirstUnr
 faults fs n =
     number_field fs n 1 0 (omega arith) _ _ (λ x. number_field fs n 2 6 (omega arith) _ _ (λ y. number_field fs n 3 12 (omega arith) _ _ (λ v.
     number_field fs n 4 18 (omega arith) _ _ (λ a. number_field fs n 5 24 (omega arith) _ _ (λ d.
-    no_rest (record { x = x; y = y; levels = v; robots = a; set = d }))))))
+    no_rest {Y = Order} (record { x = x; y = y; levels = v; robots = a; set = d }))))))
 
 pub order_as_written : OrderAsWritten
 order_as_written =

@@ -1,8 +1,8 @@
 // Making settings, and what they say.
-ghost use Rattle.std.specs.Prelude.{◌≡◌, ◌≤◌};
+ghost use Rattle.std.specs.Prelude.{◌≡◌, ◌≤◌, IfOk, IfSome};
 ghost use Rattle.std.specs.Option.{option_map};
 ghost use Rattle.terms.specs.Refusals.{Answers, Settles, refusal_in};
-ghost use Rattle.terms.specs.Durations.{duration_set, duration_of};
+ghost use Rattle.terms.specs.Durations.{IsSet, Takes, duration_set, duration_of};
 ghost use Rattle.terms.specs.View.{settings_of, times_of};
 ghost use Rattle.terms.specs.Ranges.{settings_refusal, settings_reasons, settings_from};
 
@@ -18,7 +18,8 @@ const SETS: [[u8; 6]; 4] = [
 
 // The duration set of a number, if there is one.
 fn duration_set(number: u32) -> Option<Durations>
-    ensures { option_map times_of result ≡ duration_set number }
+    ensures value { option_map times_of result ≡ duration_set number }
+    ensures words { IfSome result (λ d. IsSet number (times_of d)) }
 {
     // By `as`: there is no `From` between a u32 and a usize.
     let [entry, leave, loaded, empty, pickup, deliver] = *SETS.get(number as usize)?;
@@ -37,6 +38,7 @@ impl Settings {
     pub fn new(levels: u32, robots: u32, set: u32) -> Result<Settings, Refusal>
         ensures value { Answers (settings_refusal levels robots set) (λ s. settings_of s ≡ settings_from levels robots set) result }
         ensures words { Settles (settings_reasons levels robots set) (refusal_in result) }
+        ensures lasts { IfOk result (λ s. IsSet set (settings_of s).times) }
     {
         let durations = duration_set(set).ok_or(Rule::SettingsRange)?;
         if !(1..=16).contains(&levels) || !(1..=64).contains(&robots) {
@@ -66,6 +68,7 @@ impl Settings {
     // How many timesteps a work takes, of a robot with or without a block.
     pub fn duration(&self, work: Work, block: bool) -> u8
         ensures value { result ≡ duration_of (settings_of self.now).times work block }
+        ensures words { Takes (settings_of self.now).times work block result }
         ensures lasts { 1 ≤ result }
     {
         match work {

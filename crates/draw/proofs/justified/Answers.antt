@@ -23,10 +23,17 @@ placed w m k digits ys e f y =
 from_index : (xs : List ℕ) (a : ℕ) → take (length xs - a) (drop a xs) ≡ drop a xs
 from_index xs a = take_all (length xs - a) (drop a xs) (simp length-drop (omega arith))
 
-pub returns : goal.returns
-returns g c =
+pub returns-clause-value : goal.returns-clause-value
+returns-clause-value g c =
     let shown = c.as_bytes-digits.ensures.value ∙ c.format.ensures.text in
     placed g.row.N c.min-shown.result _ (decimal c.args.n) c.copy_from_slice.new.self
     (c.min-shown.ensures ∙ ap (λ (l : List ℕ). min (length l) g.row.N) shown)
     (ap (λ (n : ℕ). n - (g.row.N - c.min-shown.result)) (length-replicate g.row.N 32))
     (c.copy_from_slice.ensures.after ∙ from_index c.as_bytes-digits.result.now _ ∙ ap (λ (l : List ℕ). drop (length l - c.min-shown.result) l) shown)
+
+-- Where all digits have room none is cut off.
+pub returns-clause-words : goal.returns-clause-words
+returns-clause-words g c fits =
+    let digits = decimal c.args.n in
+    let all : length digits - g.row.N ≡ 0 = omega arith in
+    returns-clause-value g c ∙ ap (λ (k : ℕ). replicate (g.row.N - length digits) 32 ++ drop k digits) all

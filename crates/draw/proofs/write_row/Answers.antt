@@ -28,7 +28,7 @@ close hs out i e long inv =
 
 pub loop-i-preserved : goal.loop-i-preserved
 loop-i-preserved c =
-    let wide = c.copy_from_slice.ensures.after ∙ c.justified.ensures ∙ ap (justified 3) c.from.ensures ∙ cell_justified (get_or c.args.heights.now c.loop-i.i 0) (search rules) in
+    let wide = c.copy_from_slice.ensures.after ∙ c.justified.ensures.value ∙ ap (justified 3) c.from.ensures ∙ cell_justified (get_or c.args.heights.now c.loop-i.i 0) (search rules) in
     step c.args.heights.now c.loop-i.out c.copy_from_slice.new.self c.loop-i.i _ (omega arith) (omega arith) c.loop-i.invariant wide
 
 pub returns : goal.returns
