@@ -4,4 +4,5 @@ pub mod Busiest
 pub mod Judged
 pub mod Lined
 pub mod Formed
+pub mod Tests
 pub mod Standing

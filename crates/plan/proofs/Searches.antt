@@ -13,10 +13,10 @@ pub stable : {P : Type 0} (b : Bool) → Decides b P → ((P → ⊥) → ⊥) �
 stable true d n = d.0 refl
 stable false d n = absurd (n (λ p. true≢false (sym (d.1 p))))
 
-yes : {P : Type 0} → P → Decides true P
+pub yes : {P : Type 0} → P → Decides true P
 yes p = (λ _. p, λ _. refl)
 
-no : {P : Type 0} → (P → ⊥) → Decides false P
+pub no : {P : Type 0} → (P → ⊥) → Decides false P
 no n = (λ e. absurd (true≢false (sym e)), λ p. absurd (n p))
 
 pub decides_no_entry : (w : Work) → Decides (not (is_entry w)) (w ≢ Entry)

@@ -3,6 +3,7 @@ pub mod Plan
 pub mod Lines
 pub mod Asking
 pub mod View
+pub mod Tests
 pub mod Stands
 pub mod Rules
 pub mod Judged

@@ -1,6 +1,6 @@
 -- The rules that a plan keeps, each in words of all its actions, and what marks and carry a line may have. Assumes nothing.
-use Rattle.std.specs.Prelude.{◌≡◌, ℕ, suc, ◌<◌, ◌≤◌, Bool, true, false, cond, ◌≢◌, ◌⊎◌, List, [], ◌∷◌, map, length, count_by, ◌==◌, slice_index_or}
-use Rattle.terms.specs.Durations.{SiteSettings}
+use Rattle.std.specs.Prelude.{◌≡◌, ℕ, suc, ◌+◌, ◌<◌, ◌≤◌, Bool, true, false, cond, ◌≢◌, ◌⊎◌, List, [], ◌∷◌, map, length, count_by, ◌==◌, slice_index_or}
+use Rattle.terms.specs.Durations.{SiteSettings, Takes}
 use Rattle.terms.specs.declared.work.Work.{Work}
 use Rattle.terms.specs.declared.work.Work.TheVariants.{Entry, Leave, Wait, Move, PickUp, Deliver}
 use Rattle.ground.specs.Meaning.{Meaning}
@@ -13,6 +13,7 @@ use Rattle.sheet.specs.declared.target.Target.{Target}
 use Rattle.plan.specs.Lines.{written_action, due, marked}
 use Rattle.plan.specs.Plan.{Action, Ends, Runs, Starts, Touches, carry_after, end_column, height_at, line, runs}
 use Rattle.plan.specs.Stands.{StandsFor}
+use Rattle.plan.specs.Tests.{TestsOf}
 
 -- marks stand only with M; P is empty-handed, D has a block
 abbrev pub Suited : Letter → Bool → Bool → Bool → Type 0
@@ -27,9 +28,11 @@ pub record Marks (l : ActLine) : Type 0 where
   pub one_side : marked l.from.column ≡ true → marked l.to.column ≢ true
   pub suited : Suited l.letter (marked l.from.column) (marked l.to.column) l.carry
 
--- what judging takes a well marked line for is what the line stands for
+-- what judging takes a well marked line for is what the line stands for, and its tests of an action are what they are said to be
 pub record LinesStand : Type 0 where
   pub stands : (l : ActLine) → Marks l → StandsFor l (written_action l)
+  pub tests : (a : Action) → TestsOf a
+  pub ends_when_done : (s : SiteSettings) (a : Action) → (n : ℕ) × Takes s.times a.work a.carry n × (due s a ≡ a.start + n)
 
 -- an entry, a leave and a wait have one column
 abbrev pub OneColumn : Work → ℕ → ℕ → Type 0
