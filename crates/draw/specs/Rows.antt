@@ -27,7 +27,7 @@ text hs = rows_by (length hs) hs
 -- behind the last
 pub record Draws (hs bs : List ℕ) : Type 0 where
   pub size : length bs ≡ 3 * length hs + (length hs + 15) / 16
-  pub places : (i : ℕ) → i < length hs 
+  pub places : (i : ℕ) → i < length hs
       → take 3 (drop (3 * i + i / 16) bs) ≡ replicate (3 - length (decimal (slice_index hs i))) 32 ++ decimal (slice_index hs i)
   pub row_end : (i : ℕ) → i < length hs → (i % 16 ≡ 15) ⊎ (suc i ≡ length hs) → slice_index bs (3 * i + i / 16 + 3) ≡ 10
 
