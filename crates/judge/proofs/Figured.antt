@@ -1,8 +1,8 @@
 -- The figures that are computed are what they are in words. Assumes nothing.
-use Rattle.std.proofs.Common.{◌≡◌, ℕ, List, refl, arith}
+use Rattle.std.proofs.Common.{ℕ, List, refl, arith}
 use Rattle.plan.specs.Plan.{Action, makespan, no_action}
 use Rattle.plan.proofs.Judged.{ends_by}
-use Rattle.judge.specs.Figures.{Computed, Figures, most_at_once}
+use Rattle.judge.specs.Figures.{Computed, Figures}
 use Rattle.judge.proofs.Most.{most_never, most_reached}
 use Rattle.judge.proofs.Searches.{largest_at}
 

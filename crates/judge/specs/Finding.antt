@@ -1,10 +1,10 @@
 -- What searches over actions find, the first of some kind and the lowest column; and what is kept of actions that were judged.
 -- Assumes nothing.
-use Rattle.std.specs.Prelude.{◌≡◌, ℕ, ◌+◌, ◌<◌, ◌≤◌, max, min, Bool, true, cond, not, ◌&&◌, ◌≢◌, List, [], ◌∷◌, length, take, count_by, slice_index_or, slice_set, Some, None, Option, nat_le, nat_lt}
+use Rattle.std.specs.Prelude.{◌≡◌, ℕ, ◌+◌, ◌<◌, ◌≤◌, min, Bool, true, cond, not, ◌&&◌, ◌≢◌, List, [], ◌∷◌, length, take, count_by, slice_index_or, slice_set, Some, None, Option, nat_le, nat_lt}
 use Rattle.std.specs.Option.{option_map}
 use Rattle.terms.specs.declared.work.Work.TheVariants.{Leave}
 use Rattle.ground.specs.Meaning.{Meaning}
-use Rattle.plan.specs.Plan.{Action, carried, end_column, is_leave, line, runs}
+use Rattle.plan.specs.Plan.{Action, carried, end_column, is_leave, line}
 use Rattle.plan.specs.Rules.{Carried}
 use Rattle.judge.specs.Judging.{latest_start}
 

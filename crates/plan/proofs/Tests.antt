@@ -1,12 +1,12 @@
 -- The tests of an action are what they are said to be. Assumes nothing.
-use Rattle.std.proofs.Common.{◌≡◌, ℕ, ◌+◌, ◌≤◌, Bool, true, false, ◌&&◌, ◌||◌, eqb, leb, ◌≢◌, ◌⊎◌, Decides, sym, refl, ap, ◌∙◌, inl, inr, ⊎_elim}
+use Rattle.std.proofs.Common.{◌≡◌, ℕ, ◌+◌, ◌≤◌, Bool, true, false, ◌&&◌, eqb, leb, ◌≢◌, ◌⊎◌, Decides, sym, refl, ap, ◌∙◌, inl, inr}
 use Rattle.std.proofs.lemmas.Bool.Decides.{Decides-and, Decides-eqb, Decides-like, Decides-or}
 use Rattle.terms.proofs.Tests.{decides_leb}
 use Rattle.terms.specs.Durations.{SiteSettings, Takes, Times, duration_of}
 use Rattle.terms.specs.declared.work.Work.{Work}
 use Rattle.terms.specs.declared.work.Work.TheVariants.{Entry, Leave, Wait, Move, PickUp, Deliver}
 use Rattle.plan.specs.Lines.{due}
-use Rattle.plan.specs.Plan.{Action, Touches, carry_after_of, delivers, end_column_of, is_deliver, is_pick_up, picks, shares}
+use Rattle.plan.specs.Plan.{Action, carry_after_of, end_column_of, is_deliver, is_pick_up, shares}
 use Rattle.plan.specs.Tests.{Shares, TestsOf}
 use Rattle.plan.proofs.Searches.{decides_ends, decides_runs, decides_starts, no, yes}
 

@@ -1,4 +1,4 @@
-use Rattle.std.proofs.Common.{vec_items, sym, ap, ◌∙◌}
+use Rattle.std.proofs.Common.{sym, ap, ◌∙◌}
 use Rattle.gate.specs.Time.{after_ticks}
 use Rattle.gate.specs.View.{scene_of}
 use Rattle.gate.proofs.Waiting.{busy_longest, idle_longest, settle_less, settle_on, settles_so}

@@ -1,4 +1,4 @@
-use Rattle.std.proofs.Common.{◌≡◌, ◌<◌, ◌-◌, ◌+◌, sym, ◌∙◌, arith}
+use Rattle.std.proofs.Common.{◌<◌, ◌-◌, ◌+◌, sym, ◌∙◌, arith}
 use Rattle.gate.specs.View.{scene_of}
 use Rattle.gate.proofs.Waiting.{idle_longest, idle_on, tick_on}
 use Rattle.gate.proofs.site.Site.wait.Goals as goal
