@@ -1,24 +1,20 @@
 -- What lines do in a hall is what is said of them. Assumes nothing.
-use Rattle.std.proofs.Common.{◌≡◌, ℕ, zero, suc, ◌<◌, ◌≤◌, List, [], ◌∷◌, ◌++◌, length, replicate, codes, Some, None, Ok, Err, Option, Result, refl, ap, sym, ◌∙◌, subst, arith}
-use Rattle.std.proofs.lemmas.List.{length-replicate}
+use Rattle.std.proofs.Common.{◌≡◌, ℕ, zero, suc, ◌<◌, List, [], ◌∷◌, ◌++◌, length, replicate, codes, Some, None, Ok, Err, Option, Result, refl, ap, sym, ◌∙◌, subst, arith}
 use Rattle.terms.specs.Durations.{SiteSettings}
 use Rattle.terms.specs.Refusals.{Told}
 use Rattle.ground.specs.Meaning.{Lawful, Meaning}
-use Rattle.gate.specs.declared.call.Call.{Call}
 use Rattle.gate.specs.declared.call.Call.TheVariants.{Tick}
-use Rattle.gate.specs.Column.{fresh}
 use Rattle.gate.specs.Gate.{step}
 use Rattle.gate.specs.Recall.{recall}
 use Rattle.gate.specs.Scene.{Scene, opened}
 use Rattle.undertaking.specs.Obeying.{Obeyed}
-use Rattle.gate.specs.Time.{Quiet, after_ticks, longest, settled}
-use Rattle.undertaking.specs.Runs.{Reply, run}
+use Rattle.gate.specs.Time.{after_ticks, longest, settled}
+use Rattle.undertaking.specs.Runs.{Reply}
 use Rattle.undertaking.proofs.Plain.{Proper}
 use Rattle.gate.proofs.Waiting.{settles_so}
-use Rattle.service.specs.Deeds.{Deed, calls_by_all, done, replies_to, reply_to, runs}
+use Rattle.service.specs.Deeds.{Deed, done, replies_to, reply_to, runs}
 use Rattle.service.proofs.Lasting.{runs_append}
 use Rattle.service.proofs.Standing.{whole}
-use Rattle.service.proofs.Unfolding.{runs_run}
 use Rattle.console.specs.declared.command.Command.{Command}
 use Rattle.console.specs.declared.command.Command.TheVariants.{Makes, Ticks, Clear, Look, Play}
 use Rattle.console.specs.declared.usage.Usage.{Usage}

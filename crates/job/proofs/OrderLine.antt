@@ -1,8 +1,7 @@
 -- A job line is read as an order exactly where it is that order written out. Assumes nothing.
-use Rattle.std.proofs.Common.{◌≡◌, ℕ, ◌+◌, ◌^◌, ◌<◌, List, [], ◌∷◌, ◌++◌, length, get_or, take, drop, Some, None, Ok, Err, Option, Result, codes, decimal, sym, refl, ap, ◌∙◌, subst, arith, length-append}
-use Rattle.std.specs.Prelude.{◌↔◌}
+use Rattle.std.proofs.Common.{◌≡◌, ℕ, List, [], ◌∷◌, ◌++◌, length, get_or, take, Some, None, Ok, Err, Option, Result, codes, decimal, sym, refl, ap, ◌∙◌, arith, length-append}
 use Rattle.std.specs.Result.{result_err}
-use Rattle.std.proofs.lemmas.List.{append-nil, drop_all, take_at}
+use Rattle.std.proofs.lemmas.List.{drop_all, take_at}
 use Rattle.sheet.specs.Fields.{number_in}
 use Rattle.sheet.specs.Lines.{fields}
 use Rattle.sheet.specs.Readable.{FirstUnread, ShowsNumber}
