@@ -23,7 +23,8 @@ pub fn justified<const N: usize>(n: u64) -> [u8; N]
     places
 }
 
-// Writes a row, and a newline after it, into its own stretch of the buffer.
+// Writes a row, and a newline after it, into its own stretch of the buffer. Form: that stretch alone is lent, so no row can touch
+// another.
 fn write_row(heights: &[u8], out: &mut [u8])
     requires { length out.old ≡ 3 * length heights.now + 1 }
     ensures { out.new ≡ row_text heights.now }

@@ -27,6 +27,7 @@ impl From<Stranded> for Refusal {
 }
 
 // A mark that is tried: it stands while the guard lives, and what was there before comes back when the guard is let go.
+// Form: a guard over the marks that it is lent, so that no way out can forget to put the mark back.
 struct Trial<'a> {
     marks: &'a mut [u8],
     column: usize,

@@ -31,7 +31,7 @@ pub(crate) fn read_order(input: &[u8]) -> Result<Order, Refusal>
         return Err(Rule::LineShape.into());
     }
     let fields = &line[4..34];
-    // Form: a field that cannot be read ends the line where it stands, with its number.
+    // Form: at the first field that shows nothing reading stops, and tells that field's number.
     let Some(x) = number(&fields[0..6]) else {
         return Err(unreadable(1));
     };

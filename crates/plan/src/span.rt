@@ -1,4 +1,5 @@
-// When an action runs: from its start up to, but not including, its end.
+// When an action runs: from its start up to, but not including, its end. Form: that the end comes after the start is part of the
+// type, and nothing that is made of spans asks for it again.
 ghost use Rattle.std.specs.Prelude.{◌<◌};
 
 #[derive(Clone, Copy, PartialEq, Eq, Debug)]

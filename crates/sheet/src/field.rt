@@ -59,7 +59,7 @@ fn lone_byte(field: &[u8]) -> Option<u8>
     }
 }
 
-// The letter in a field. Form: by char cases, as the formats name letters and marks.
+// The letter in a field. Form, here and at the marks below: by char cases, as the formats name them.
 pub(crate) fn letter_in(field: &[u8]) -> Option<Letter>
     ensures { result ≡ letter_in field.now }
 {

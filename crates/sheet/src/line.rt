@@ -10,8 +10,8 @@ use terms::{Refusal, Rule};
 // How many bytes a line has, with its newline.
 pub const LINE_LENGTH: usize = 35;
 
-// A line of one of the four kinds: its number and the bytes of its fields. An enum of borrowed lines, by a rule of the project:
-// what a kind of line holds is said at the kind.
+// A line of one of the four kinds: its number and the bytes of its fields. Form: an enum of borrowed lines, so that what a kind
+// of line holds is said at the kind.
 #[derive(Drop)]
 pub(crate) enum Line<'a> {
     Goal { number: u16, fields: &'a [u8; 30] },

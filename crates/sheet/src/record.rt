@@ -51,7 +51,7 @@ pub enum Record {
 }
 
 // What the fields of a GOAL line show, or the first thing that cannot be read.
-// Form, here and below: a field that cannot be read ends the line where it stands, with its number.
+// Form, here and below: at the first field that shows nothing reading stops, and tells that field's number.
 pub(crate) fn goal_in(fields: &[u8; 30]) -> Result<Record, Unread>
     ensures { answer_of result ≡ goal_in fields.now }
 {
