@@ -2,7 +2,7 @@
 #![tactic(auto)]
 
 ghost use Rattle.std.specs.Prelude.{◌≡◌, ◌+◌, ◌-◌, ◌*◌, ◌/◌, ◌<◌, ◌≤◌, ◌++◌, length, take, drop, replicate, decimal, IfOk, IfErr};
-ghost use Rattle.terms.specs.Refusals.{Answers};
+ghost use Rattle.terms.specs.Refusals.{Answers, told, told_of};
 ghost use Rattle.terms.specs.declared.refusal.Rule.TheVariants.{BufferShort};
 ghost use Rattle.draw.specs.Rows.{Draws, buffered, draw_refusal, row_text, text};
 ghost use Rattle.draw.specs.Places.{justified};
@@ -65,7 +65,10 @@ fn write_rows(heights: &[u8], out: &mut [u8])
 pub fn draw(heights: &[u8], out: &mut [u8]) -> Result<usize, Refusal>
     ensures value { Answers (draw_refusal heights.now out.old) (λ n. n ≡ length (text heights.now)) result }
     ensures after { out.new ≡ buffered heights.now out.old result }
-    ensures words { IfOk result (λ n. Draws heights.now (take n out.new)) }
+    ensures words { IfOk result (λ n. Draws heights.now (take n out.new) × (drop n out.new ≡ drop n out.old)) }
+    ensures room { IfOk result (λ _. 3 * length heights.now + (length heights.now + 15) / 16 ≤ length out.old) }
+    ensures short { IfErr result (λ f. (length out.old < 3 * length heights.now + (length heights.now + 15) / 16) × (told_of f ≡ told BufferShort 0 0)) }
+    ensures unspoilt { IfErr result (λ _. out.new ≡ out.old) }
 {
     let size = drawn_size(heights.len(), out.len())?;
     write_rows(heights, out);

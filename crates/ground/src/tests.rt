@@ -24,6 +24,11 @@ fn square_sizes(rt: HostRuntime) {
 }
 
 #[test]
+fn most_links(rt: HostRuntime) {
+    assert_eq!(rt; [Square::MOST_LINKS, Listed::MOST_LINKS], [4, 6]);
+}
+
+#[test]
 fn square_links(rt: HostRuntime) -> Result<(), Fail> {
     let ground = Square::new(3, 5)?;
     assert_eq!(rt;

@@ -1,5 +1,5 @@
 -- The refusal of judging settles its reasons, and there is none exactly where the sheet reads and the rules hold. Assumes nothing.
-use Rattle.std.proofs.Common.{◌≡◌, ℕ, List, length, is_ok, Some, None, Ok, Err, Decides, Result, sym, refl, ap, ◌∙◌, subst}
+use Rattle.std.proofs.Common.{◌≡◌, ℕ, List, length, is_ok, Some, None, Ok, Err, Decides, Option, Result, sym, refl, ap, ◌∙◌, subst}
 use Rattle.std.proofs.lemmas.Bool.{true≢false}
 use Rattle.terms.specs.Durations.{SiteSettings}
 use Rattle.terms.specs.Refusals.{Answers, Settles, Silent, Told, first_of, from_on, or_else, refusal_in, told_of}
@@ -31,6 +31,22 @@ module _ (m : Meaning) (s : SiteSettings) (sheet : List ℕ) where
   pub at_reading : (t : Told) → reading_refusal m s sheet ≡ Some t → judging_refusal m s sheet ≡ Some t
   unfolding judging_refusal
   at_reading t e = off _ _ t e
+
+  -- what is accepted is read
+  pub accepted_reads : judging_refusal m s sheet ≡ None → reading_refusal m s sheet ≡ None
+  accepted_reads e = go (reading_refusal m s sheet) refl
+    where
+      go : (o : Option Told) → reading_refusal m s sheet ≡ o → o ≡ None
+      go None read = refl
+      go (Some t) read = let refused = at_reading t read in cc
+
+  -- and so is what keeps the rules
+  pub keeps_reads : Keeps m s sheet → reading_refusal m s sheet ≡ None
+  keeps_reads k = go (reading_refusal m s sheet) refl
+    where
+      go : (o : Option Told) → reading_refusal m s sheet ≡ o → o ≡ None
+      go None read = refl
+      go (Some t) read = absurd (speaks_not (reading_reasons m s sheet) t (subst (Settles (reading_reasons m s sheet)) read (reading_settles m s sheet)) k.reads)
 
   module _ (r : Records) (read : reading_refusal m s sheet ≡ None) (is : r ≡ records_in sheet) where
     staged : judging_refusal m s sheet ≡ or_else (first_of (from_on (tests_at m s r.acts) 0 (length r.acts))) (first_of (end_tests m (written_plan r.acts) (target_of r.targets) r.lines))

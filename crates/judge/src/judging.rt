@@ -1,9 +1,10 @@
 // Judging a sheet.
-ghost use Rattle.std.specs.Prelude.{◌≡◌, length, is_ok, Decides};
+ghost use Rattle.std.specs.Prelude.{◌≡◌, length, is_ok, Decides, IfOk};
 ghost use Rattle.terms.specs.Refusals.{Answers, Settles, first_of, from_on, refusal_in};
 ghost use Rattle.terms.specs.View.{settings_of};
 ghost use Rattle.plan.specs.Rules.{LinesStand, written_plan, target_of};
 ghost use Rattle.plan.specs.View.{plan_of};
+ghost use Rattle.sheet.specs.Gathered.{IsSheet};
 ghost use Rattle.sheet.specs.View.{records_in};
 ghost use Rattle.judge.specs.Figures.{Computed, Figures};
 ghost use Rattle.judge.specs.Finding.{Settled};
@@ -84,6 +85,7 @@ pub fn judge<G: Ground>(
     ensures words { Settles (judging_reasons (G.Ground.meaning ground.now) (settings_of settings.now) sheet.now) (refusal_in result) }
     ensures rules { Decides (is_ok result) (Keeps (G.Ground.meaning ground.now) (settings_of settings.now) sheet.now) }
     ensures lines { LinesStand }
+    ensures gathers { IfOk result (λ _. IsSheet sheet.now (records_in sheet.now)) }
 {
     let Room { reading, actions } = room;
     let read = read_sheet(ground, settings, sheet, reading)?;

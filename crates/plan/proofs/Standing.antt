@@ -16,7 +16,7 @@ use Rattle.sheet.specs.declared.record.Place.{Place}
 use Rattle.sheet.specs.declared.record.Place.TheVariants.{Outside, At}
 use Rattle.plan.specs.Lines.{written_action}
 use Rattle.plan.specs.Plan.{Action}
-use Rattle.plan.proofs.Tests.{ends_when_done, tests_of}
+use Rattle.plan.proofs.Tests.{ends_when_done, is_target, tests_of}
 use Rattle.plan.proofs.Lined.{decides_marks}
 use Rattle.plan.specs.Lines.{line_tests, marks_fit}
 use Rattle.plan.specs.Rules.{LinesStand, Marks}
@@ -89,4 +89,4 @@ answer_stands m s x (Ok a) w = unrefused_stands m s x (action_of a) w.0 w.1
 answer_stands m s x (Err f) w = tt
 
 pub lines_stand : LinesStand
-lines_stand = record { stands = stands; tests = tests_of; ends_when_done = ends_when_done }
+lines_stand = record { stands = stands; tests = tests_of; targets = is_target; ends_when_done = ends_when_done }

@@ -1,5 +1,6 @@
 -- The tests of an action are what they are said to be. Assumes nothing.
-use Rattle.std.proofs.Common.{◌≡◌, ℕ, ◌+◌, ◌≤◌, Bool, true, false, ◌&&◌, eqb, leb, ◌≢◌, ◌⊎◌, Decides, sym, refl, ap, ◌∙◌, inl, inr}
+use Rattle.std.proofs.Common.{◌≡◌, ℕ, ◌+◌, ◌≤◌, Bool, true, false, ◌&&◌, eqb, leb, ◌≢◌, ◌⊎◌, Decides, sym, refl, ap, ◌∙◌, inl, inr, zero, suc, ◌<◌, cond, List, [], ◌∷◌, length, get_or, arith}
+use Rattle.std.proofs.lemmas.Bool.{eq-eqb, eqb-true, true≢false}
 use Rattle.std.proofs.lemmas.Bool.Decides.{Decides-and, Decides-eqb, Decides-like, Decides-or}
 use Rattle.terms.proofs.Tests.{decides_leb}
 use Rattle.terms.specs.Durations.{SiteSettings, Takes, Times, duration_of}
@@ -7,7 +8,9 @@ use Rattle.terms.specs.declared.work.Work.{Work}
 use Rattle.terms.specs.declared.work.Work.TheVariants.{Entry, Leave, Wait, Move, PickUp, Deliver}
 use Rattle.plan.specs.Lines.{due}
 use Rattle.plan.specs.Plan.{Action, carry_after_of, end_column_of, is_deliver, is_pick_up, shares}
+use Rattle.plan.specs.Rules.{IsTarget, no_target, target_of}
 use Rattle.plan.specs.Tests.{Shares, TestsOf}
+use Rattle.sheet.specs.declared.target.Target.{Target}
 use Rattle.plan.proofs.Searches.{decides_ends, decides_runs, decides_starts, no, yes}
 
 decides_deliver : (w : Work) → Decides (is_deliver w) (w ≡ Deliver)
@@ -94,3 +97,25 @@ takes t Deliver b = Takes.deliver b
 
 pub ends_when_done : (s : SiteSettings) (a : Action) → (n : ℕ) × Takes s.times a.work a.carry n × (due s a ≡ a.start + n)
 ends_when_done s a = (duration_of s.times a.work a.carry, takes s.times a.work a.carry, refl)
+
+-- the target of a column
+one_on : (t : Target) (ts : List Target) (c h : ℕ) → (t.column ≢ c) → IsTarget ts c h → IsTarget (t ∷ ts) c h
+one_on t ts c h n (IsTarget.named i l e before) =
+    IsTarget.named (suc i) (omega arith) e below
+  where
+    below : (j : ℕ) → j < suc i → (get_or (t ∷ ts) j no_target).column ≢ c
+    below zero k = n
+    below (suc j) k = before j (omega arith)
+one_on t ts c h n (IsTarget.unnamed none) = IsTarget.unnamed all
+  where
+    all : (i : ℕ) → i < length (t ∷ ts) → (get_or (t ∷ ts) i no_target).column ≢ c
+    all zero k = n
+    all (suc i) k = none i (omega arith)
+
+pub is_target : (ts : List Target) (c : ℕ) → IsTarget ts c (target_of ts c)
+is_target [] c = IsTarget.unnamed (λ i l. absurd (omega arith))
+is_target (t ∷ ts) c = go (eqb t.column c) refl (is_target ts c)
+  where
+    go : (b : Bool) → eqb t.column c ≡ b → IsTarget ts c (target_of ts c) → IsTarget (t ∷ ts) c (cond b t.height (target_of ts c))
+    go true e w = IsTarget.named 0 (omega arith) (eqb-true t.column c e) (λ j l. absurd (omega arith))
+    go false e w = one_on t ts c (target_of ts c) (λ i. true≢false (sym (eq-eqb t.column c i) ∙ e)) w

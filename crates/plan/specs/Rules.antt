@@ -28,10 +28,25 @@ pub record Marks (l : ActLine) : Type 0 where
   pub one_side : marked l.from.column ≡ true → marked l.to.column ≢ true
   pub suited : Suited l.letter (marked l.from.column) (marked l.to.column) l.carry
 
+-- the target of a column, 0 where none is named
+abbrev pub target_of : List Target → ℕ → ℕ
+target_of [] c = 0
+target_of (t ∷ ts) c = cond (t.column == c) t.height (target_of ts c)
+
+abbrev pub no_target : Target
+no_target = record { column = 0; height = 0 }
+
+-- the height of the first target that names the column; 0 where none does
+pub data IsTarget (ts : List Target) (c : ℕ) : ℕ → Type 0 where
+  named : (i : ℕ) → i < length ts → (slice_index_or ts i no_target).column ≡ c → ((j : ℕ) → j < i → (slice_index_or ts j no_target).column ≢ c)
+      → IsTarget ts c (slice_index_or ts i no_target).height
+  unnamed : ((i : ℕ) → i < length ts → (slice_index_or ts i no_target).column ≢ c) → IsTarget ts c 0
+
 -- what judging takes a well marked line for is what the line stands for, and its tests of an action are what they are said to be
 pub record LinesStand : Type 0 where
   pub stands : (l : ActLine) → Marks l → StandsFor l (written_action l)
   pub tests : (a : Action) → TestsOf a
+  pub targets : (ts : List Target) (c : ℕ) → IsTarget ts c (target_of ts c)
   pub ends_when_done : (s : SiteSettings) (a : Action) → (n : ℕ) × Takes s.times a.work a.carry n × (due s a ≡ a.start + n)
 
 -- an entry, a leave and a wait have one column
@@ -116,11 +131,6 @@ pub record Rules (m : Meaning) (s : SiteSettings) (plan : List Action) (targets 
   pub limit : (t : ℕ) → count_by (runs t) plan ≤ s.robots
   -- when all has ended, the heights are the targets
   pub reached : (c t : ℕ) → c < m.columns → ((i : ℕ) → i < length plan → (line plan i).end ≤ t) → height_at plan t c ≡ targets c
-
--- the target of a column, 0 where none is named
-abbrev pub target_of : List Target → ℕ → ℕ
-target_of [] c = 0
-target_of (t ∷ ts) c = cond (t.column == c) t.height (target_of ts c)
 
 abbrev pub no_act : ActLine
 no_act =

@@ -64,7 +64,8 @@ pub data Played : List Action → ℕ → Scene → Option Told → Scene → Ty
   ended : {now n : ℕ} {v : Scene} → Quiet (after_ticks n v).columns → ((k : ℕ) → k < n → Quiet (after_ticks k v).columns → ⊥)
       → Played [] now v None (after_ticks n v)
   stopped : {a : Action} {rest : List Action} {now : ℕ} {v : Scene} {k : Call} {t : Told}
-      → call_of a ≡ Some k → refusal (ready a now v) k ≡ Some t → Played (a ∷ rest) now v (Some (on_line a.line t)) (ready a now v)
+      → call_of a ≡ Some k → refusal (ready a now v) k ≡ Some t
+      → Played (a ∷ rest) now v (Some (record { number = t.number; layer = t.layer; line = a.line; detail = t.detail })) (ready a now v)
   granted : {a : Action} {rest : List Action} {now : ℕ} {v w : Scene} {k : Call} {answer : Option Told}
       → call_of a ≡ Some k → refusal (ready a now v) k ≡ None → Played rest a.start (grant (ready a now v) k) answer w
       → Played (a ∷ rest) now v answer w

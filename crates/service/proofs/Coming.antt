@@ -17,7 +17,8 @@ use Rattle.play.specs.Play.{Fresh, Outcome, play_on}
 use Rattle.play.specs.Stands.{Comes, Usable}
 use Rattle.play.proofs.Standing.{plays_stand}
 use Rattle.judge.specs.Verdict.{sheet_plan, sheet_targets}
-use Rattle.judge.proofs.Verdict.{keeps_silent, silent_keeps}
+use Rattle.sheet.proofs.Gathered.{is_sheet}
+use Rattle.judge.proofs.Verdict.{keeps_reads, keeps_silent, silent_keeps}
 use Rattle.service.specs.Deeds.{Deed, runs, calls_by_all}
 use Rattle.service.specs.Whole.{PlaysSheets}
 use Rattle.service.proofs.Unfolding.{runs_run}
@@ -67,5 +68,6 @@ module _ (m : Meaning) (s : SiteSettings) (law : Lawful m) (ok : Proper s) where
   sheets_after ds =
       record {
         unrefused = λ sheet. (keeps_silent m s sheet (timed s ok), silent_keeps m s sheet (timed s ok));
+        written = λ sheet k. is_sheet m s sheet (keeps_reads m s sheet k);
         comes = λ fresh sheet k. plays_after ds fresh (sheet_plan sheet) (sheet_targets sheet) k.rules.rules;
       }

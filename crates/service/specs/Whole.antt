@@ -10,6 +10,8 @@ use Rattle.undertaking.specs.Obeying.{Empty, Holds, Obeyed, Toll}
 use Rattle.gate.specs.Time.{Quiet, after_ticks}
 use Rattle.undertaking.specs.Lasting.{Lasts}
 use Rattle.undertaking.specs.Undertaking.{Bounds, Reads, Undertaking}
+use Rattle.sheet.specs.Gathered.{IsSheet}
+use Rattle.sheet.specs.View.{records_in}
 use Rattle.plan.specs.Plan.{Action}
 use Rattle.plan.specs.Rules.{Rules}
 use Rattle.judge.specs.Reasons.{judging_reasons}
@@ -23,6 +25,8 @@ use Rattle.service.specs.Lasting.{LastsThrough}
 pub record PlaysSheets (m : Meaning) (s : SiteSettings) (v : Scene) : Type 0 where
   -- it is accepted by the rules of the whole plan exactly where judging has no reason to refuse it
   pub unrefused : (sheet : List ℕ) → Keeps m s sheet ↔ Silent (judging_reasons m s sheet)
+  -- its lines are that sheet written out, and its plan and targets are what they come to
+  pub written : (sheet : List ℕ) → Keeps m s sheet → IsSheet sheet (records_in sheet)
   -- its plan is stopped where it first strands a robot, and nowhere else, and otherwise ends with its targets
   pub comes : Fresh v → (sheet : List ℕ) → Keeps m s sheet → Comes m s (sheet_plan sheet) (sheet_targets sheet) (play_on (sheet_plan sheet) v)
 

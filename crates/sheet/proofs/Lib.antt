@@ -5,3 +5,4 @@ pub mod Justified
 pub mod Laid
 pub mod Readable
 pub mod Written
+pub mod Gathered

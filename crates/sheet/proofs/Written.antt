@@ -170,7 +170,7 @@ ok_is (Ok y) r e = let i : y ≡ r = cc in ap (λ (z : Record). Ok z) i
 ok_is (Err k) r e = cc
 
 -- a line that is read, written out
-reads : (n : ℕ) (l : List ℕ) → length l ≡ 35 → (r : Record) → bad_shape l ≡ false → record_in n l ≡ Some r → Written n l r
+pub reads : (n : ℕ) (l : List ℕ) → length l ≡ 35 → (r : Record) → bad_shape l ≡ false → record_in n l ≡ Some r → Written n l r
 unfolding goal_by end_by act_by
 reads n l long r = go (word_in l) refl
   where

@@ -7,3 +7,4 @@ pub mod View
 pub mod Reasons
 pub mod Written
 pub mod Readable
+pub mod Gathered

@@ -1,5 +1,5 @@
 // Reading a sheet.
-ghost use Rattle.std.specs.Prelude.{◌≡◌, ◌+◌, ◌<◌, ◌≤◌, true, false, ◌++◌, ◌==◌, length, Some, MatchOption, vec_len};
+ghost use Rattle.std.specs.Prelude.{◌≡◌, ◌+◌, ◌<◌, ◌≤◌, true, false, ◌++◌, ◌==◌, length, Some, IfOk, MatchOption, vec_len};
 ghost use Rattle.std.specs.Simd.{first_chunks};
 ghost use Rattle.terms.specs.Refusals.{Answers, Settles, first_of, or_else, refusal_in};
 ghost use Rattle.terms.specs.View.{settings_of};
@@ -7,6 +7,7 @@ ghost use Rattle.sheet.specs.Kinds.{line_tests};
 ghost use Rattle.sheet.specs.Lines.{record_in};
 ghost use Rattle.sheet.specs.Reasons.{reading_reasons};
 ghost use Rattle.sheet.specs.View.{sheet_of, records_in};
+ghost use Rattle.sheet.specs.Gathered.{IsSheet};
 ghost use Rattle.sheet.specs.Readable.{ReadsAsWritten};
 ghost use Rattle.sheet.specs.Reading.{goal_fits, place_tests, goals_of, acts_of, Small, bad_sheet, lines_in, reading_refusal};
 
@@ -102,6 +103,7 @@ pub fn read_sheet<G: Ground>(
     ensures value { Answers (reading_refusal (G.Ground.meaning ground.now) (settings_of settings.now) sheet.now) (λ s. sheet_of s ≡ records_in sheet.now) result }
     ensures words { Settles (reading_reasons (G.Ground.meaning ground.now) (settings_of settings.now) sheet.now) (refusal_in result) }
     ensures shows { ReadsAsWritten }
+    ensures gathers { IfOk result (λ s. IsSheet sheet.now (sheet_of s)) }
 {
     let lines = lines_of(sheet).ok_or(Rule::SheetShape)?;
     let Room { targets, acts } = room;

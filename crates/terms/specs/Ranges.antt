@@ -1,8 +1,8 @@
 -- Which numbers settings can be made of. Assumes nothing.
-use Rattle.std.specs.Prelude.{ℕ, ◌≤◌, Bool, not, ◌&&◌, List, [], ◌∷◌, Option, nat_le}
+use Rattle.std.specs.Prelude.{◌≡◌, ℕ, ◌≤◌, Bool, not, ◌&&◌, List, [], ◌∷◌, Option, nat_le}
 use Rattle.std.specs.Option.{unwrap_or}
 use Rattle.terms.specs.declared.refusal.Rule.TheVariants.{SettingsRange}
-use Rattle.terms.specs.Durations.{SiteSettings, duration_set, times}
+use Rattle.terms.specs.Durations.{IsSet, SiteSettings, duration_set, times}
 use Rattle.terms.specs.Refusals.{Reason, Told, first_of, told}
 
 abbrev pub within : ℕ → ℕ → ℕ → Bool
@@ -22,6 +22,12 @@ pub record InRange (levels robots set : ℕ) : Type 0 where
 
 abbrev pub settings_reasons : ℕ → ℕ → ℕ → List Reason
 settings_reasons levels robots set = record { holds = InRange levels robots set → ⊥; tells = told SettingsRange 0 0 } ∷ []
+
+-- settings are those of their numbers, in words
+pub record MadeOf (levels robots set : ℕ) (s : SiteSettings) : Type 0 where
+  pub levels_so : s.levels ≡ levels
+  pub robots_so : s.robots ≡ robots
+  pub set_so : IsSet set s.times
 
 abbrev pub settings_from : ℕ → ℕ → ℕ → SiteSettings
 settings_from levels robots set =

@@ -4,7 +4,7 @@ ghost use Rattle.std.specs.Option.{option_map};
 ghost use Rattle.terms.specs.Refusals.{Answers, Settles, refusal_in};
 ghost use Rattle.terms.specs.Durations.{IsSet, Takes, duration_set, duration_of};
 ghost use Rattle.terms.specs.View.{settings_of, times_of};
-ghost use Rattle.terms.specs.Ranges.{settings_refusal, settings_reasons, settings_from};
+ghost use Rattle.terms.specs.Ranges.{MadeOf, settings_refusal, settings_reasons, settings_from};
 
 use crate::{Durations, Refusal, Rule, Settings, Work};
 
@@ -38,7 +38,7 @@ impl Settings {
     pub fn new(levels: u32, robots: u32, set: u32) -> Result<Settings, Refusal>
         ensures value { Answers (settings_refusal levels robots set) (λ s. settings_of s ≡ settings_from levels robots set) result }
         ensures words { Settles (settings_reasons levels robots set) (refusal_in result) }
-        ensures lasts { IfOk result (λ s. IsSet set (settings_of s).times) }
+        ensures means { IfOk result (λ s. MadeOf levels robots set (settings_of s)) }
     {
         let durations = duration_set(set).ok_or(Rule::SettingsRange)?;
         if !(1..=16).contains(&levels) || !(1..=64).contains(&robots) {

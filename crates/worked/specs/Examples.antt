@@ -10,7 +10,7 @@ use Rattle.terms.specs.declared.refusal.Rule.TheVariants.{SquareSize, BorderList
 use Rattle.terms.specs.declared.work.Work.TheVariants.{Entry, Leave as LeaveWork, Wait, Move as MoveWork, PickUp, Deliver}
 use Rattle.ground.specs.Squared.{square_refusal, squared}
 use Rattle.gate.specs.declared.call.Call.{Call}
-use Rattle.gate.specs.declared.call.Call.TheVariants.{Leave, Lift, Move, Tick}
+use Rattle.gate.specs.declared.call.Call.TheVariants.{Enter, Leave, Lift, Move, Tick}
 use Rattle.gate.specs.declared.column.State.TheVariants.{Free, Standing}
 use Rattle.gate.specs.declared.order.Next.{Next}
 use Rattle.gate.specs.declared.order.Next.TheVariants.{Leaves, Moves}
@@ -96,6 +96,32 @@ oblong =
     ++ line (codes "ACT      2     3   1  0 0 M   E  E")
     ++ line (codes "END      3                        ")
 
+-- two towers, one of two blocks, which a robot on the other lays up
+abbrev pub stair : List ℕ
+stair =
+    line (codes "JOB      3     5     3     1     0")
+    ++ line (codes "GOAL     6     1                  ")
+    ++ line (codes "GOAL     7     2                  ")
+    ++ line (codes "ACT      0     1   S  S 1 M   2  0")
+    ++ line (codes "ACT      1     2   2  0 1 D   7  0")
+    ++ line (codes "ACT      2     3   2  0 0 M   E  E")
+    ++ line (codes "ACT      3     4   S  S 1 M   1  0")
+    ++ line (codes "ACT      4     5   1  0 1 D   6  0")
+    ++ line (codes "ACT      5     6   1  0 0 M   E  E")
+    ++ line (codes "ACT      6     7   S  S 1 M   1  0")
+    ++ line (codes "ACT      7     8   1  0 1 M   6  1")
+    ++ line (codes "ACT      8     9   6  1 1 D   7  1")
+    ++ line (codes "ACT      9    10   6  1 0 M   1  0")
+    ++ line (codes "ACT     10    11   1  0 0 M   E  E")
+    ++ line (codes "END     11                        ")
+
+-- two robots at once
+abbrev pub crowded : List ℕ
+crowded =
+    line (codes "ACT      0     1   S  S 0 M   1  0")
+    ++ line (codes "ACT      0     1   S  S 0 M   3  0")
+    ++ line (codes "END      2                        ")
+
 abbrev pub job_line_set_1 : List ℕ
 job_line_set_1 = line (codes "JOB      3     3     2     1     1")
 
@@ -150,9 +176,12 @@ examples =
     ∷ record { given = answered (job_line ++ delayed); expected = line (codes "BAD     16     3     1") }
     ∷ record { given = answered (job_line_set_1 ++ one_block); expected = line (codes "BAD     14     2     0") }
     ∷ record { given = answered oblong; expected = line (codes "OK       3     3     1") ++ line (codes "  0  0  0  0  0  0  1  0  0  0  0  0  0  0  0") }
+    ∷ record { given = answered stair; expected = line (codes "OK      11    11     1") ++ line (codes "  0  0  0  0  0  0  1  2  0  0  0  0  0  0  0") }
+    ∷ record { given = answered (job_line ++ crowded); expected = line (codes "BAD     20     2     0") }
     ∷ record { given = numbers (square_refusal 16 1); expected = [] }
     ∷ record { given = numbers (square_refusal 17 1); expected = 1 ∷ 0 ∷ 0 ∷ [] }
     ∷ record { given = numbers (refusal hill (Lift 5 6)); expected = 30 ∷ 0 ∷ 7 ∷ [] }
+    ∷ record { given = numbers (refusal hill (Enter 0 false)); expected = 29 ∷ 0 ∷ 0 ∷ [] }
     ∷ record { given = named (recall hill); expected = 5 ∷ 256 ∷ 4 ∷ [] }
     ∷ record { given = named (recall (after (Leave 5 ∷ Tick ∷ []))); expected = 7 ∷ 6 ∷ 3 ∷ [] }
     ∷ record { given = named (recall (after (Leave 5 ∷ Tick ∷ Move 7 6 ∷ Tick ∷ []))); expected = 6 ∷ 1 ∷ 2 ∷ [] }

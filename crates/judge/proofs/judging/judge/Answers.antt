@@ -1,4 +1,5 @@
 -- Each way out is the refusal of its stage, those before it having passed.
+use Rattle.std.specs.Prelude.{IfOk}
 use Rattle.std.proofs.Common.{◌≡◌, ℕ, List, is_ok, Ok, Err, Decides, Result, sym, ap, ◌∙◌}
 use Rattle.std.proofs.lemmas.Result.{err_from_is_err_and}
 use Rattle.terms.specs.Durations.{SiteSettings}
@@ -6,7 +7,9 @@ use Rattle.terms.specs.Refusals.{Answers, Settles, first_of, refusal_in, told_of
 use Rattle.terms.specs.View.{settings_of}
 use Rattle.terms.specs.declared.refusal.Refusal.{Refusal}
 use Rattle.ground.specs.Meaning.{Meaning}
+use Rattle.sheet.specs.Gathered.{IsSheet}
 use Rattle.sheet.specs.View.{Records, records_in, sheet_of}
+use Rattle.sheet.proofs.Gathered.{is_sheet}
 use Rattle.plan.specs.Judged.{Timed}
 use Rattle.plan.specs.Plan.{Action as Step}
 use Rattle.plan.specs.Rules.{LinesStand, written_plan, target_of}
@@ -16,16 +19,22 @@ use Rattle.judge.specs.Reasons.{judging_reasons}
 use Rattle.judge.specs.Verdict.{Accepts, Keeps}
 use Rattle.judge.specs.declared.accepted.Accepted.{Accepted}
 use Rattle.judge.proofs.Timely.{timed}
-use Rattle.judge.proofs.Verdict.{at_end, at_lines, at_reading, decides_keeps, in_words}
+use Rattle.judge.proofs.Verdict.{accepted_reads, at_end, at_lines, at_reading, decides_keeps, in_words}
 use Rattle.judge.proofs.judging.judge.Goals as goal
 
 abbrev Accepting : List ℕ → Accepted → Type 0
 Accepting sheet a = Accepts (records_in sheet) a
 
+-- an accepted sheet is what its lines come to
+gathered : (m : Meaning) (s : SiteSettings) (sheet : List ℕ) (r : Result Accepted Refusal) → Answers (judging_refusal m s sheet) (Accepting sheet) r
+    → IfOk r (λ _. IsSheet sheet (records_in sheet))
+gathered m s sheet (Ok a) e = is_sheet m s sheet (accepted_reads m s sheet e.0)
+gathered m s sheet (Err f) e = tt
+
 -- what is answered, in words and by the rules
 verdict : (m : Meaning) (s : SiteSettings) (sheet : List ℕ) → Timed s → (r : Result Accepted Refusal) → Answers (judging_refusal m s sheet) (Accepting sheet) r
-    → record { value : Answers (judging_refusal m s sheet) (Accepting sheet) r; words : Settles (judging_reasons m s sheet) (refusal_in r); rules : Decides (is_ok r) (Keeps m s sheet); lines : LinesStand }
-verdict m s sheet t r e = record { value = e; words = in_words m s sheet (Accepting sheet) r e; rules = decides_keeps m s sheet t (Accepting sheet) r e; lines = lines_stand }
+    → record { value : Answers (judging_refusal m s sheet) (Accepting sheet) r; words : Settles (judging_reasons m s sheet) (refusal_in r); rules : Decides (is_ok r) (Keeps m s sheet); lines : LinesStand; gathers : IfOk r (λ _. IsSheet sheet (records_in sheet)) }
+verdict m s sheet t r e = record { value = e; words = in_words m s sheet (Accepting sheet) r e; rules = decides_keeps m s sheet t (Accepting sheet) r e; lines = lines_stand; gathers = gathered m s sheet r e }
 
 -- the sheet's end, of the same plan
 ended : (m : Meaning) (r : Records) {p q : List Step} → p ≡ q → first_of (end_tests m q (target_of r.targets) r.lines) ≡ first_of (end_tests m p (target_of r.targets) r.lines)

@@ -1,4 +1,4 @@
-use Rattle.std.proofs.Common.{◌≡◌, ℕ, List, [], Some, get_or, ap, ◌∙◌, true, subst, arith, rules}
+use Rattle.std.proofs.Common.{◌≡◌, ℕ, List, [], Some, get_or, ap, ◌∙◌, sym, true, subst, arith, rules}
 use Rattle.std.proofs.lemmas.Option.{MatchOption-at_some}
 use Rattle.terms.specs.Refusals.{Answers, Settles, told, told_of}
 use Rattle.terms.specs.View.{settings_of}
@@ -9,6 +9,8 @@ use Rattle.sheet.specs.Reading.{bad_sheet, line_at, reading_refusal}
 use Rattle.sheet.specs.Reasons.{reading_reasons}
 use Rattle.sheet.specs.View.{records_in, sheet_of}
 use Rattle.sheet.proofs.Reasoned.{reading_settles}
+use Rattle.sheet.specs.Gathered.{IsSheet}
+use Rattle.sheet.proofs.Gathered.{is_sheet, sheets}
 use Rattle.sheet.proofs.Written.{reads_as_written}
 use Rattle.sheet.proofs.Whole.{all_read, line_cut, one_more, shape_refused, stops_here}
 use Rattle.sheet.proofs.read.read_sheet.Goals as goal
@@ -21,7 +23,7 @@ returns-in_err-lines g c =
     let bad : bad_sheet sheet ≡ true = search rules in
     let e : reading_refusal m s sheet ≡ Some (told SheetShape 0 0) = shape_refused m s sheet bad in
     let value : Answers (reading_refusal m s sheet) (λ (x : Sheet). sheet_of x ≡ records_in sheet) c.from_residual.result = search (rules, e) in
-    record { value = value; words = answers_settle _ _ _ _ value (reading_settles m s sheet); shows = reads_as_written }
+    record { value = value; words = answers_settle _ _ _ _ value (reading_settles m s sheet); shows = reads_as_written; gathers = sheets m s sheet _ value }
 
 pub returns-in_err-take_line : goal.returns-in_err-take_line
 returns-in_err-take_line g c =
@@ -38,7 +40,7 @@ returns-in_err-take_line g c =
     stops_here m s sheet (g.G.Ground.meaning reader.ground.now) (settings_of reader.settings.now) reader.lines i reader.total l reader.targets.items reader.acts.items _
     (ap g.G.Ground.meaning inv.0) (ap settings_of inv.1) inv.3 (omega arith) cut inv.2 reader.acts.ok.0 inv.4 _ w.0 c.in_err-take_line.ensures.value in
     let value : Answers (reading_refusal m s sheet) (λ (x : Sheet). sheet_of x ≡ records_in sheet) c.from_residual-in_err-take_line.result = search (rules, e) in
-    record { value = value; words = answers_settle _ _ _ _ value (reading_settles m s sheet); shows = reads_as_written }
+    record { value = value; words = answers_settle _ _ _ _ value (reading_settles m s sheet); shows = reads_as_written; gathers = sheets m s sheet _ value }
 
 pub loop-line-preserved : goal.loop-line-preserved
 loop-line-preserved g c =
@@ -69,4 +71,4 @@ returns g c =
     let inv = c.loop-line.invariant in
     let w = MatchOption-at_some _ _ c.in_ok-lines.lines c.in_ok-lines.ensures.ok_part c.lines_of.ensures in
     let all = all_read m s sheet c.loop-line.line-index reader.lines reader.targets.items reader.acts.items inv.3 (omega arith) inv.4 w.0 in
-    record { value = all; words = subst (Settles (reading_reasons m s sheet)) all.0 (reading_settles m s sheet); shows = reads_as_written }
+    record { value = all; words = subst (Settles (reading_reasons m s sheet)) all.0 (reading_settles m s sheet); shows = reads_as_written; gathers = subst (IsSheet sheet) (sym all.1) (is_sheet m s sheet all.0) }
