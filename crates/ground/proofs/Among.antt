@@ -1,9 +1,8 @@
 -- A column is linked with just those that are its neighbours. Assumes nothing.
-use Rattle.std.proofs.Common.{◌≡◌, ℕ, zero, suc, ◌+◌, ◌<◌, ◌≤◌, Bool, true, false, ◌&&◌, ◌||◌, eqb, List, [], ◌∷◌, length, drop, Some, filter, sym, refl, ap, ◌∙◌, ⊎_elim, arith}
+use Rattle.std.proofs.Common.{◌≡◌, ℕ, zero, suc, ◌+◌, ◌<◌, ◌≤◌, true, false, ◌&&◌, ◌||◌, eqb, List, [], ◌∷◌, drop, Some, sym, ap, ◌∙◌, ⊎_elim, arith}
 use Rattle.std.specs.List.{range_with_len, list_any, slice_get}
 use Rattle.std.proofs.lemmas.Map.Views.{any-filter_same}
-use Rattle.std.proofs.lemmas.Bool.{and_left, cases_Bool, cases_eq, cond-false, cond-true, eq-eqb, eqb-true, ne_eqb}
-use Rattle.std.proofs.lemmas.List.FromFn.{length-range_with_len}
+use Rattle.std.proofs.lemmas.Bool.{and_left, cases_Bool, cases_eq, eq-eqb, eqb-true, ne_eqb}
 use Rattle.ground.specs.Meaning.{Meaning, Lawful, neighbours}
 
 in_range : (d n a : ℕ) → a ≤ d → d < a + n → list_any (λ x. eqb x d) (range_with_len a n) ≡ true
@@ -30,14 +29,3 @@ next_item (x ∷ xs) (suc k) d h = next_item xs k d h ∙ ap (λ n. d ∷ drop n
   where
     plus : suc (k + 1) ≡ suc k + 1
     plus = omega arith
-
-length_filter : (p : ℕ → Bool) (xs : List ℕ) → length (filter p xs) ≤ length xs
-length_filter p [] = omega arith
-length_filter p (x ∷ xs) = go (p x) refl (length_filter p xs)
-  where
-    go : (b : Bool) → p x ≡ b → length (filter p xs) ≤ length xs → length (filter p (x ∷ xs)) ≤ suc (length xs)
-    go true t ih = omega (arith, ap length (cond-true (p x) (x ∷ filter p xs) (filter p xs) t), ih)
-    go false f ih = omega (arith, ap length (cond-false (p x) (x ∷ filter p xs) (filter p xs) f), ih)
-
-pub few_neighbours : (m : Meaning) (c : ℕ) → Lawful m → length (neighbours m c) ≤ 256
-few_neighbours m c law = omega (arith, length_filter (m.linked c) (range_with_len 0 m.columns), length-range_with_len 0 m.columns, law.few)
