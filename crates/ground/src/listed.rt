@@ -1,7 +1,8 @@
 // The listed ground: a border and links that are listed one by one, kept as a row for each column.
-ghost use Rattle.std.specs.Prelude.{◌≡◌, ℕ, ◌<◌, length, slice_index_or};
+ghost use Rattle.std.specs.Prelude.{◌≡◌, ℕ, ◌<◌, None, length, slice_index_or};
+ghost use Rattle.std.specs.List.{slice_get};
 ghost use Rattle.ground.specs.Meaning.{Lawful, neighbours};
-ghost use Rattle.ground.specs.Table.{in_row, no_row, tabled};
+ghost use Rattle.ground.specs.Table.{entries, in_row, no_row, tabled};
 
 use crate::row::Row;
 
@@ -12,5 +13,6 @@ pub struct Listed {
     pub(crate) rows: [Row; 256],
     ghost lawful: { Lawful (tabled columns rows) },
     ghost rows_wide: { (c : ℕ) → c < columns → length (slice_index_or rows c no_row).to ≡ 6 },
+    ghost rows_packed: { (c k : ℕ) → slice_index_or (slice_index_or rows c no_row).to k None ≡ slice_get (entries (slice_index_or rows c no_row)) k },
     ghost rows_tell: { (c : ℕ) → neighbours (tabled columns rows) c ≡ in_row columns rows c },
 }

@@ -8,7 +8,7 @@ ghost use Rattle.ground.specs.Table.{Filled, no_row, other};
 ghost use Rattle.ground.specs.View.{listed_of};
 ghost use Rattle.ground.specs.Lawful.{listed_few};
 
-use crate::places::{count, pick};
+use crate::places::count;
 use crate::row::Row;
 use crate::{Ground, Listed};
 use std::array;
@@ -118,6 +118,6 @@ impl Ground for Listed {
     }
 
     fn link(&self, column: u16, k: usize) -> Option<u16> {
-        pick(&self.row(column)?.to, k)
+        self.row(column)?.to.get(k).copied().flatten()
     }
 }

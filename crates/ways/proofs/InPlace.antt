@@ -1,6 +1,6 @@
 -- A round may be made in place: the labels that it gives are not those that it looks for. Assumes nothing.
-use Rattle.std.proofs.Common.{◌≡◌, ℕ, suc, ◌+◌, ◌<◌, ◌≤◌, Bool, true, false, cond, not, ◌&&◌, ltb, ◌≢◌, ◌⊎◌, length, set, is_some, Some, None, Option, sym, refl, ap, ◌∙◌, subst, inl, inr, add-one, arith}
-use Rattle.std.proofs.lemmas.List.{get_or-set_same, get_or-set_other}
+use Rattle.std.proofs.Common.{◌≡◌, ℕ, suc, ◌+◌, ◌<◌, ◌≤◌, Bool, true, false, cond, not, ◌&&◌, ltb, ◌≢◌, ◌⊎◌, length, replicate, set, is_some, Some, None, Option, sym, refl, ap, ◌∙◌, subst, inl, inr, add-one, arith}
+use Rattle.std.proofs.lemmas.List.{get_or-replicate, get_or-set_same, get_or-set_other, get_or_past, length-replicate}
 use Rattle.std.proofs.lemmas.Bool.{and_left, cases_lt, cases_eq, cases_Bool, cond-true, cond-false, lt-ltb, le-ltb, ne_eqb}
 use Rattle.ground.specs.Meaning.{Lawful, Meaning}
 use Rattle.ways.specs.Way.{Relief}
@@ -8,6 +8,13 @@ use Rattle.ways.specs.Table.{Table, Relabelled, label, is_label, near, lower, lo
 use Rattle.ways.proofs.Tests.{gains_decides}
 use Rattle.ways.proofs.Rounds.{at_start, at_round, past}
 use Rattle.ways.proofs.Exactness.{ended}
+
+-- a table without labels
+pub blank : (c : ℕ) → label (replicate 256 None) c ≡ None
+blank c = elim (cases_lt c 256) [
+  | inl l ↦ get_or-replicate 256 c None None l
+  | inr g ↦ let t : Table = replicate 256 None in get_or_past t c None (omega (arith, length-replicate {A = Option ℕ} 256 None))
+]
 
 module _ (new old : ℕ → Option ℕ) (us : Table) where
   pub none_yet : ((e : ℕ) → label us e ≡ old e) → Relabelled new old us 0
@@ -27,7 +34,7 @@ module _ (new old : ℕ → Option ℕ) (us : Table) where
       same e i (inl l) = cond-true (ltb e c) (new e) (old e) (lt-ltb e c l) ∙ sym (cond-true (ltb e (c + 1)) (new e) (old e) (lt-ltb e (c + 1) (omega arith)))
       same e i (inr l) = cond-false (ltb e c) (new e) (old e) (le-ltb e c l) ∙ sym (cond-false (ltb e (c + 1)) (new e) (old e) (le-ltb e (c + 1) (omega arith)))
 
-  one_set : (c : ℕ) (o : Option ℕ) → Relabelled new old us c → c < length us → o ≡ new c → Relabelled new old (set us c o) (c + 1)
+  pub one_set : (c : ℕ) (o : Option ℕ) → Relabelled new old us c → c < length us → o ≡ new c → Relabelled new old (set us c o) (c + 1)
   one_set c o h l e = one_more (set us c o) c h (get_or-set_same us c o None l ∙ e) (λ d i. get_or-set_other us c d o None i)
 
   one_kept : (c : ℕ) → Relabelled new old us c → old c ≡ new c → Relabelled new old us (c + 1)

@@ -22,7 +22,8 @@ impl Ways {
             columns,
             marks,
         };
-        let mut steps = terrain.start();
+        let mut steps = [None; 256];
+        terrain.start(&mut steps);
         // By number: round n gives the label n + 1, and there are no more labels than columns.
         for n in 0..ground.columns() {
             if !terrain.round(&mut steps, n) {

@@ -1,12 +1,11 @@
 // The lie of the ground, and the rounds of a search over it.
-ghost use Rattle.std.specs.Prelude.{◌≡◌, ℕ, ◌<◌, false};
+ghost use Rattle.std.specs.Prelude.{◌≡◌, ℕ, ◌<◌, false, None};
 ghost use Rattle.ways.specs.Table.{Relabelled, label, gains, first_label, next_label};
 ghost use Rattle.ways.specs.View.{marked, relief_of};
 
 use crate::links::lowest_beside;
 use crate::tall::{Tall, is_settled};
 use ground::Ground;
-use std::array;
 
 // A ground with the heights of its columns and the marks of those that are changing.
 #[derive(Drop)]
@@ -24,11 +23,15 @@ impl<G: Ground, C: Tall> Terrain<'_, G, C> {
         (self.ground.is_border(column) && is_settled(self.marks, column)).then_some(0)
     }
 
-    // The first label of every column.
-    pub(crate) fn start(&self) -> [Option<u16>; 256]
-        ensures { (c : ℕ) → label result c ≡ first_label (G.Ground.meaning self.now.ground.now) (marked self.now.marks.now) c }
+    // Gives every column its first label, in a table without labels: none past the last column of the ground.
+    pub(crate) fn start(&self, steps: &mut [Option<u16>; 256])
+        requires { (c : ℕ) → label steps.old c ≡ None }
+        ensures { (c : ℕ) → label steps.new c ≡ first_label (G.Ground.meaning self.now.ground.now) (marked self.now.marks.now) c }
     {
-        array::from_fn(|column| self.first(column as u16))
+        // By number, widened by `as`, and in place, as a round is.
+        for column in 0..self.ground.columns() {
+            steps[column as usize] = self.first(column);
+        }
     }
 
     // Whether a settled column without a label is beside one that is labelled n.

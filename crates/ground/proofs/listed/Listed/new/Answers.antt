@@ -1,11 +1,12 @@
 -- The tests name the first reason to refuse; where there is none, the rows mean what the lists say.
-use Rattle.std.proofs.Common.{rules, ◌≡◌, Some, sym, ap, ◌∙◌, subst, arith}
+use Rattle.std.proofs.Common.{rules, ◌≡◌, get_or, Some, sym, ap, ◌∙◌, subst, arith}
 use Rattle.terms.specs.Refusals.{Settles, refusal_in}
 use Rattle.std.specs.List.{flat_map}
 use Rattle.ground.specs.Listing.{listing_reasons, listing_refusal}
-use Rattle.ground.specs.Table.{Filled, other}
+use Rattle.ground.specs.Table.{Filled, no_row, other}
 use Rattle.ground.proofs.Crowds.{crowded_within, not_crowded}
 use Rattle.ground.proofs.Makes.{means_lists, rows_lawful, rows_tell}
+use Rattle.ground.proofs.Picks.{packed_at}
 use Rattle.ground.proofs.Ordered.{decides_border, decides_order, listing_settles}
 use Rattle.ground.proofs.Refuses.{refuse_border, refuse_crowd, refuse_none, refuse_order}
 use Rattle.ground.proofs.Told.{is_listed}
@@ -67,6 +68,7 @@ invariant_of-result c =
     record {
       lawful = rows_lawful n border ks rows list up full;
       rows_wide = λ d lt. full.wide d (omega (arith, list.high));
+      rows_packed = λ d k. packed_at (get_or rows d no_row).to k (full.packed d);
       rows_tell = rows_tell n border ks rows list up full;
     }
 

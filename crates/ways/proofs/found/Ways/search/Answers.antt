@@ -2,12 +2,15 @@ use Rattle.std.proofs.Common.{sym, ap, ◌∙◌, add-one, arith}
 use Rattle.ways.specs.Table.{label, after}
 use Rattle.ways.specs.View.{relief_by}
 use Rattle.ways.proofs.Exactness.{steps_home}
-use Rattle.ways.proofs.InPlace.{started, rounded, all_rounds, ended_early}
+use Rattle.ways.proofs.InPlace.{blank, started, rounded, all_rounds, ended_early}
 use Rattle.ways.proofs.found.Ways.search.Goals as goal
+
+pub start-requires : goal.start-requires
+start-requires g c = blank
 
 pub loop-n-init : goal.loop-n-init
 loop-n-init g c =
-    started (g.G.Ground.meaning c.args.ground.now) (relief_by g.C.Tall.tallness c.args.columns.now c.args.marks.now) (g.met.G.Ground.lawful c.args.ground.now) c.start-steps.result c.start-steps.ensures
+    started (g.G.Ground.meaning c.args.ground.now) (relief_by g.C.Tall.tallness c.args.columns.now c.args.marks.now) (g.met.G.Ground.lawful c.args.ground.now) c.start.new.steps c.start.ensures
 
 pub loop-n-preserved : goal.loop-n-preserved
 loop-n-preserved g c =
